@@ -24,13 +24,14 @@ pub enum Kind {
 }
 
 impl Kind {
-    ghost use Rattle.std.specs.Prelude.{◌≡◌};
+    ghost use Rattle.std.specs.Prelude.{◌≡◌, ◌≤◌, length};
     ghost use Rattle.cx_base.specs.Names.{kind_name};
 
     /// The variant's name, as a report writes it.
     #[tactic(auto, unfolding(crate::specs::Names::kind_name))]
     pub fn name(self) -> &'static str
-        ensures { result.now ≡ kind_name self }
+        ensures text { result.now ≡ kind_name self }
+        ensures short { length result.now ≤ 18 }
     {
         match self {
             Kind::BadByte => "BadByte",

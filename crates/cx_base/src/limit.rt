@@ -26,13 +26,14 @@ pub enum Limit {
 }
 
 impl Limit {
-    ghost use Rattle.std.specs.Prelude.{◌≡◌};
+    ghost use Rattle.std.specs.Prelude.{◌≡◌, ◌≤◌, length};
     ghost use Rattle.cx_base.specs.Names.{limit_name};
 
     /// The variant's name, as a report writes it.
     #[tactic(auto, unfolding(crate::specs::Names::limit_name))]
     pub fn name(self) -> &'static str
-        ensures { result.now ≡ limit_name self }
+        ensures text { result.now ≡ limit_name self }
+        ensures short { length result.now ≤ 9 }
     {
         match self {
             Limit::Source => "Source",

@@ -1,5 +1,5 @@
 /// A scalar type: `int` and `unsigned` have 32 bits, `long long` and `unsigned long long` 64.
-#[derive(Clone, Copy, Debug, PartialEq, Eq)]
+#[derive(Clone, Copy, Debug, PartialEq, Eq, Hash)]
 pub enum Scalar {
     Bool,
     Int,

@@ -1,0 +1,4 @@
+pub mod ReadingLemmas
+pub mod PutsLemmas
+pub mod StageLemmas
+pub mod AnswersLemmas

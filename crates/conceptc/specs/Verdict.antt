@@ -1,0 +1,34 @@
+-- What a unit's bytes are: the first stop of the stages, else their plain unit.
+--
+-- The stages are, in this order: the limit on the bytes; the tokens and the grammar; the names; the plain unit.
+use Rattle.std.specs.Prelude.{ℕ, List, length, nat_lt, Result, Ok, Err, if◌then◌else◌}
+use Rattle.cx_base.specs.Refusal.{Refusal, Passed, ◌>>=◌}
+use Rattle.cx_base.specs.declared.limit.Limit.TheVariants as limit
+use Rattle.cx_base.specs.declared.place.Place.{Place}
+use Rattle.cx_lexer.specs.Tokens.{tokens}
+use Rattle.cx_parse_decl.specs.Grammar.{unit_at}
+use Rattle.cx_tree.specs.UnitTree.{UnitTree}
+use Rattle.cx_plain.specs.declared.tree.PlainUnit.{PlainUnit}
+use Rattle.cx_engine.specs.Plain.{translated}
+
+-- How many bytes a unit may have.
+abbrev pub source_limit : ℕ
+source_limit = 4194304
+
+-- The place of what the whole input passes.
+abbrev pub no_place : Place
+no_place = record { line = 0; col = 0 }
+
+-- The tree of the bytes: tokens, then the grammar.
+unfoldable pub tree_of : List ℕ → Result UnitTree Refusal
+tree_of bytes = unit_at (tokens bytes)
+
+-- The stages behind the limit on the bytes.
+unfoldable pub judged : List ℕ → Result PlainUnit Refusal
+judged bytes = do
+  unit ← tree_of bytes
+  translated unit
+
+-- The verdict on a unit's bytes.
+unfoldable pub verdict : List ℕ → Result PlainUnit Refusal
+verdict bytes = if nat_lt source_limit (length bytes) then Err (Passed limit.Source no_place) else judged bytes

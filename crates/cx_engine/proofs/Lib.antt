@@ -1,0 +1,5 @@
+pub mod NamesLemmas
+pub mod ResolutionLemmas
+pub mod TranslationLemmas
+pub mod MeaningLemmas
+pub mod WellNamedLemmas

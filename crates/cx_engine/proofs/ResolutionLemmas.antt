@@ -1,0 +1,49 @@
+-- The names of a unit, found one function after the other.
+use Rattle.std.proofs.Common.{◌≡◌, ℕ, ◌+◌, ◌<◌, ◌≤◌, List, [], ◌∷◌, ◌++◌, length, get_or, take, drop, Result, Ok, refl, ap, sym, ◌∙◌, subst}
+use Rattle.std.specs.Prelude.{map}
+use Rattle.std.proofs.lemmas.List.{take_more, take_all, drop_more, drop_all, map_push}
+use Rattle.cx_base.specs.Refusal.{Refusal, Stops, ◌>>=◌}
+use Rattle.cx_base.specs.declared.stop.Stop.{Stop}
+use Rattle.cx_base.specs.declared.stop.Stop.TheVariants as stop
+use Rattle.cx_tree.specs.declared.function.Function.{Function}
+use Rattle.cx_tree.specs.UnitTree.{FunctionTree, function_tree}
+use Rattle.cx_engine.specs.Names.{Declared, declared, names_function, names_functions}
+
+abbrev pub trees : List Function → List FunctionTree
+trees fs = map function_tree fs
+
+-- what the functions so far declare, and what is left to find
+pub record Resolving (fs : List Function) (i : ℕ) (names : List Declared) : Type 0 where
+  pub so_far : names ≡ map declared (trees (take i fs))
+  pub rest : names_functions names (trees (drop i fs)) ≡ names_functions [] (trees fs)
+
+-- a stage that stops stops what comes behind it
+pub Stops-then : {A B : Type 0} (e : Stop) (m : Result A Refusal) (f : A → Result B Refusal) → Stops e m → Stops e (m >>= f)
+Stops-then stop.NoMemory m f h = tt
+Stops-then (stop.Fault d) m f h = rw h refl
+Stops-then (stop.Limit l at) m f h = rw h refl
+
+pub goes_on : (fs : List Function) (i : ℕ) (d : Function) (names more : List Declared) → i < length fs → names_function names (function_tree (get_or fs i d)) ≡ Ok tt
+    → more ≡ names ++ declared (function_tree (get_or fs i d)) ∷ [] → Resolving fs i names → Resolving fs (i + 1) more
+unfolding names_functions
+goes_on fs i d names more below found adds h =
+    let f = get_or fs i d in
+    let one : names_functions names (trees (drop i fs)) ≡ names_functions more (trees (drop (i + 1) fs)) = rw (drop_more fs i d below, found, adds) refl in
+    record {
+      so_far = adds ∙ ap (λ (n : List Declared). n ++ declared (function_tree f) ∷ []) h.so_far ∙ sym (rw (take_more fs i d below) (simp map_push refl));
+      rest = sym one ∙ h.rest;
+    }
+
+pub stops_there : (fs : List Function) (i : ℕ) (d : Function) (names : List Declared) (e : Stop) → i < length fs → Stops e (names_function names (function_tree (get_or fs i d)))
+    → Resolving fs i names → Stops e (names_functions [] (trees fs))
+unfolding names_functions
+stops_there fs i d names e below stops h =
+    let f = get_or fs i d in
+    let one : names_functions names (trees (drop i fs)) ≡ (names_function names (function_tree f) >>= λ _. names_functions (names ++ declared (function_tree f) ∷ []) (trees (drop (i + 1) fs))) = rw (drop_more fs i d below) refl in
+    subst (λ m. Stops e m) (sym one ∙ h.rest) (Stops-then e (names_function names (function_tree f)) (λ _. names_functions (names ++ declared (function_tree f) ∷ []) (trees (drop (i + 1) fs))) stops)
+
+pub ends : (fs : List Function) (i : ℕ) (names : List Declared) → length fs ≤ i → Resolving fs i names → (names_functions [] (trees fs) ≡ Ok tt) × (names ≡ map declared (trees fs))
+unfolding names_functions
+ends fs i names above h =
+    let none : names_functions names (trees (drop i fs)) ≡ Ok tt = rw (drop_all i fs above) refl in
+    (sym h.rest ∙ none, h.so_far ∙ ap (λ (gs : List Function). map declared (trees gs)) (take_all i fs above))

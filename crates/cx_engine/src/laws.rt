@@ -1,0 +1,24 @@
+//! What the stage of names finds, said without its order of work.
+
+ghost use Rattle.std.specs.Prelude.{◌≡◌, ◌⊎◌, ℕ, Ok, Err};
+ghost use Rattle.cx_base.specs.Refusal.{Refusal, Refused};
+ghost use Rattle.cx_base.specs.declared.fault.Fault.{Fault};
+ghost use Rattle.cx_base.specs.declared.kind.Kind.TheVariants.{Redeclared, UnknownName};
+ghost use Rattle.cx_tree.specs.UnitTree.{UnitTree};
+ghost use Rattle.cx_engine.specs.Names.{names_unit};
+ghost use Rattle.cx_engine.specs.WellNamed.{IsWellNamed, Redeclares, CallsUnknown};
+
+/// The laws of the names of a unit. It does nothing.
+pub fn names_of_a_unit()
+    // A unit passes exactly where it is well named.
+    ensures fine { (u : UnitTree) → names_unit u ≡ Ok tt → IsWellNamed u }
+    ensures only { (u : UnitTree) → IsWellNamed u → names_unit u ≡ Ok tt }
+
+    // Else it has one of two faults, that of the first function that has one.
+    ensures kinds { (u : UnitTree) (r : Refusal) → names_unit u ≡ Err r
+        → (f : Fault) × (r ≡ Refused f) × ((f.kind ≡ Redeclared) ⊎ (f.kind ≡ UnknownName)) }
+    ensures redeclared { (u : UnitTree) (f : Fault) → names_unit u ≡ Err (Refused f) → f.kind ≡ Redeclared
+        → (i : ℕ) × (j : ℕ) × Redeclares u f i j }
+    ensures unknown { (u : UnitTree) (f : Fault) → names_unit u ≡ Err (Refused f) → f.kind ≡ UnknownName
+        → (j : ℕ) × CallsUnknown u f j }
+{}

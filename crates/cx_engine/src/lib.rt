@@ -1,0 +1,14 @@
+//! From the tree of a unit to its plain unit: the stages behind the grammar, and what they keep.
+#![tactic(auto)]
+
+mod faults;
+mod laws;
+mod names;
+mod resolution;
+mod translation;
+
+pub use laws::names_of_a_unit;
+pub use translation::{Translation, translate_unit};
+
+#[cfg(test)]
+mod tests;

@@ -1,0 +1,6 @@
+pub mod Front
+pub mod Digits
+pub mod WordList
+pub mod PieceKinds
+pub mod Pieces
+pub mod OneDivision

@@ -1,0 +1,11 @@
+pub mod Rest
+pub mod Lexed
+pub mod Loop
+pub mod Steps
+pub mod Wanted
+pub mod Found
+pub mod Again
+pub mod Refused
+pub mod Readers
+pub mod Misfit
+pub mod Bounds

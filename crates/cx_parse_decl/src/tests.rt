@@ -1,0 +1,122 @@
+use super::*;
+use cx_base::{Fault, Kind, NodeId, Place, Stop};
+use cx_lexer::lex;
+use cx_tree::{Expr, Unit};
+use std::alloc::Global;
+use std::process::Abort;
+use std::test::Fail;
+
+fn parsed<'s>(rt: &impl Abort, alloc: Global, text: &'s [u8]) -> Result<Unit<'s>, Stop> {
+    assert!(rt; text.len() < 1000);
+    let tokens = lex(alloc, text)?;
+    parse_unit(alloc, &tokens)
+}
+
+fn fault(rt: &impl Abort, alloc: Global, text: &[u8]) -> Option<Fault> {
+    match parsed(rt, alloc, text) {
+        Err(Stop::Fault(fault)) => Some(fault),
+        _ => None,
+    }
+}
+
+fn place(line: u32, col: u32) -> Place {
+    Place { line, col }
+}
+
+const TWO: &[u8] = b"int a() { return 7; } int b() { return a(); }";
+
+#[test]
+fn a_function_with_a_literal(rt: HostRuntime) -> Result<(), Fail> {
+    let unit = parsed(&rt, rt.alloc(), TWO)?;
+    assert_eq!(rt; unit.functions.len(), 2);
+    let function = &unit.functions[0];
+    assert_eq!(rt; function.name, "a");
+    assert_eq!(rt; function.result.node, NodeId(0));
+    assert_eq!(rt; function.result.at, place(1, 1));
+    assert_eq!(rt; function.body.statement.node, NodeId(2));
+    assert_eq!(rt; function.body.statement.at, place(1, 11));
+    assert_eq!(rt; function.body.node, NodeId(3));
+    assert_eq!(rt; function.body.at, place(1, 9));
+    assert_eq!(rt; function.node, NodeId(4));
+    assert_eq!(rt; function.at, place(1, 5));
+    Ok(())
+}
+
+#[test]
+fn a_function_with_a_call(rt: HostRuntime) -> Result<(), Fail> {
+    let unit = parsed(&rt, rt.alloc(), TWO)?;
+    assert_eq!(rt; unit.functions.len(), 2);
+    let function = &unit.functions[1];
+    assert_eq!(rt; function.name, "b");
+    assert_eq!(rt; function.result.node, NodeId(5));
+    assert_eq!(rt; function.result.at, place(1, 23));
+    assert_eq!(rt; function.body.statement.node, NodeId(8));
+    assert_eq!(rt; function.body.statement.at, place(1, 33));
+    assert_eq!(rt; function.body.node, NodeId(9));
+    assert_eq!(rt; function.body.at, place(1, 31));
+    assert_eq!(rt; function.node, NodeId(10));
+    assert_eq!(rt; function.at, place(1, 27));
+    Ok(())
+}
+
+#[test]
+fn values(rt: HostRuntime) -> Result<(), Fail> {
+    let unit = parsed(&rt, rt.alloc(), TWO)?;
+    assert_eq!(rt; unit.functions.len(), 2);
+    match &unit.functions[0].body.statement.value {
+        Expr::Literal(literal) => {
+            assert_eq!(rt; literal.value, 7);
+            assert_eq!(rt; literal.node, NodeId(1));
+            assert_eq!(rt; literal.at, place(1, 18));
+        }
+        Expr::Call(_) => assert!(rt; false),
+    }
+    match &unit.functions[1].body.statement.value {
+        Expr::Literal(_) => assert!(rt; false),
+        Expr::Call(call) => {
+            assert_eq!(rt; call.node, NodeId(7));
+            assert_eq!(rt; call.at, place(1, 40));
+            assert_eq!(rt; call.callee.node, NodeId(6));
+            assert_eq!(rt; call.callee.at, place(1, 40));
+            assert_eq!(rt; call.callee.text, "a");
+        }
+    }
+    Ok(())
+}
+
+#[test]
+fn no_functions(rt: HostRuntime) -> Result<(), Fail> {
+    let unit = parsed(&rt, rt.alloc(), b" \n")?;
+    assert_eq!(rt; unit.functions.len(), 0);
+    Ok(())
+}
+
+#[test]
+fn faults_stand_at_the_first_token_that_does_not_fit(rt: HostRuntime) -> Result<(), Fail> {
+    let cases: [(&[u8], u32, u32); 11] = [
+        (b"int f() { return }", 1, 18),
+        (b"int f() {\n  return 1\n}", 3, 1),
+        (b"int f() { return 1;", 1, 20),
+        (b"int f() { return @; }", 1, 18),
+        (b"int f() { return 2147483648; }", 1, 18),
+        (b"int int() { return 1; }", 1, 5),
+        (b"int return() { return 1; }", 1, 5),
+        (b"int f(;", 1, 7),
+        (b"int f() { return g(1); }", 1, 20),
+        (b"int f() { return 1; } ;", 1, 23),
+        (b"f() { return 1; }", 1, 1),
+    ];
+    for (text, line, col) in cases {
+        let fault = fault(&rt, rt.alloc(), text).ok_or("a fault")?;
+        assert_eq!(rt; fault.kind, Kind::Syntax, "{text:?}");
+        assert_eq!(rt; fault.at, place(line, col), "{text:?}");
+        assert!(rt; fault.also.is_empty(), "{text:?}");
+        assert!(rt; fault.chain.is_empty(), "{text:?}");
+    }
+    Ok(())
+}
+
+#[test]
+fn the_laws_may_be_cited(_rt: HostRuntime) {
+    one_spelling();
+}

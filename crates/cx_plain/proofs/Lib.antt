@@ -1,0 +1,5 @@
+pub mod Constant
+pub mod ListText
+pub mod Decimal
+pub mod MoreSteps
+pub mod TypedRuns

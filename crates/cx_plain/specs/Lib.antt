@@ -1,0 +1,4 @@
+pub mod PlainText
+pub mod PlainTyping
+pub mod PlainMeaning
+pub mod Decimal

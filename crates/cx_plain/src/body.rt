@@ -1,0 +1,66 @@
+//! What stands in a function, at the end of a text.
+
+ghost use Rattle.std.specs.Prelude.{◌≡◌, ◌++◌, ◌<◌, OnOk, string_bytes, length};
+ghost use Rattle.cx_plain.specs.PlainText.{expr_text, stmt_text, function_text, function_name, name_in};
+ghost use Rattle.cx_plain.specs.PlainTyping.{IsTypedExpr, IsTypedStmt, IsTypedFunction};
+
+use crate::pieces::{put_constant, put_name};
+use crate::tree::{Expr, Function, Stmt};
+use std::alloc::AllocError;
+
+/// The plain name of the function of a number.
+fn put_callee(out: &mut String, functions: &[Function], callee: u32) -> Result<(), AllocError>
+    requires { callee < length functions.now }
+    ensures { OnOk result (string_bytes out.new ≡ string_bytes out.old ++ function_name callee (name_in functions.now callee)) }
+{
+    let number = callee as usize;
+    put_name(out, number, functions[number].name.as_str())
+}
+
+/// An expression of a function.
+#[tactic(auto, unfolding(crate::specs::PlainText::expr_text))]
+fn put_expr(out: &mut String, functions: &[Function], expr: &Expr) -> Result<(), AllocError>
+    requires { IsTypedExpr (length functions.now) expr.now }
+    ensures { OnOk result (string_bytes out.new ≡ string_bytes out.old ++ expr_text functions.now expr.now) }
+{
+    match expr {
+        Expr::Constant(value) => put_constant(out, *value),
+        Expr::Call(callee) => {
+            put_callee(out, functions, *callee)?;
+            out.push_str("()")?;
+            Ok(())
+        }
+    }
+}
+
+/// A statement of a function.
+#[tactic(auto, unfolding(crate::specs::PlainText::stmt_text))]
+fn put_stmt(out: &mut String, functions: &[Function], stmt: &Stmt) -> Result<(), AllocError>
+    requires { IsTypedStmt (length functions.now) stmt.now }
+    ensures { OnOk result (string_bytes out.new ≡ string_bytes out.old ++ stmt_text functions.now stmt.now) }
+{
+    let Stmt::Return(value) = stmt;
+    out.push_str("  return ")?;
+    put_expr(out, functions, value)?;
+    out.push_str(";\n")?;
+    Ok(())
+}
+
+/// The function of a number with its body.
+#[tactic(auto, unfolding(crate::specs::PlainText::function_text))]
+pub fn put_function(
+    out: &mut String,
+    functions: &[Function],
+    number: usize,
+    function: &Function,
+) -> Result<(), AllocError>
+    requires { IsTypedFunction (length functions.now) function.now }
+    ensures { OnOk result (string_bytes out.new ≡ string_bytes out.old ++ function_text functions.now number function.now) }
+{
+    out.push_str("int ")?;
+    put_name(out, number, function.name.as_str())?;
+    out.push_str("() {\n")?;
+    put_stmt(out, functions, &function.body)?;
+    out.push_str("}\n")?;
+    Ok(())
+}

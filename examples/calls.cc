@@ -1,0 +1,2 @@
+int a() { return 7; }
+int b() { return a(); }
