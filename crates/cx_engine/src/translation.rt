@@ -18,7 +18,7 @@ use cx_tree::{Expr, Function, Unit};
 use std::alloc::Global;
 
 /// What a unit is translated to.
-#[derive(Debug, Drop)]
+#[derive(Drop)]
 pub struct Translation {
     pub plain: PlainUnit,
 }

@@ -1,7 +1,7 @@
 use cx_base::{List, Text};
 
 /// A plain unit. What it mentions it names by its number in its list, counted from 0.
-#[derive(Debug, Drop)]
+#[derive(Drop)]
 pub struct PlainUnit {
     pub structs: List<Struct>,
     pub globals: List<Global>,
@@ -9,11 +9,11 @@ pub struct PlainUnit {
 }
 
 /// A struct. No form of it is built yet, so there is none.
-#[derive(Debug, Drop)]
+#[derive(Drop)]
 pub enum Struct {}
 
 /// A global constant. No form of it is built yet, so there is none.
-#[derive(Debug, Drop)]
+#[derive(Drop)]
 pub enum Global {}
 
 /// A function without parameters whose result is an int.
