@@ -1,0 +1,9 @@
+pub mod Words
+pub mod WordCode
+pub mod Term
+pub mod Same
+pub mod Size
+pub mod Table
+pub mod Code
+pub mod Layout
+pub mod Laws

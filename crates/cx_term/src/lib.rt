@@ -1,0 +1,24 @@
+//! One number for each tree: types, template arguments and dependent expressions.
+#![tactic(auto)]
+
+mod count;
+mod laws;
+mod node;
+mod terms;
+mod typed;
+mod word;
+
+pub use laws::{
+    equality_is_decided, extending_is_an_order, extending_keeps_trees, sizes_are_bounded,
+};
+pub use node::Node;
+pub use terms::Terms;
+pub use typed::{Cat, Typed};
+pub use word::Word;
+
+#[cfg(test)]
+mod scan;
+#[cfg(test)]
+mod scan_tests;
+#[cfg(test)]
+mod tests;
