@@ -1,0 +1,20 @@
+//! Formulas, the normal forms of constraints, in a table where equal formulas have one number; their truth
+//! and their counts; and the law that subsumption by clauses is entailment.
+#![tactic(auto)]
+
+mod atom_key;
+mod counts;
+mod formulas;
+mod laws;
+mod part;
+mod shape;
+mod valuation;
+
+pub use counts::Counts;
+pub use formulas::Formulas;
+pub use laws::subsumption_is_entailment;
+pub use part::Part;
+pub use valuation::Valuation;
+
+#[cfg(test)]
+mod tests;
