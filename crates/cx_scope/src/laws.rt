@@ -1,0 +1,25 @@
+//! What follows from the definitions. A caller that needs a law calls its function, which does nothing.
+
+ghost use Rattle.cx_scope.specs.Laws.{NotedHasKind, DeclaredHasKind, NotedKeepsOthers, DeclaredKeepsOthers, EnteredKeepsKinds, LeftAsEntered};
+
+/// A name that is noted or declared has then that kind, or stays a function template where a function follows.
+pub fn declaring_sets_a_name()
+    ensures noted { NotedHasKind }
+    ensures declared { DeclaredHasKind }
+{}
+
+/// Noting or declaring a name changes what no other name is.
+pub fn declaring_keeps_other_names()
+    ensures noted { NotedKeepsOthers }
+    ensures declared { DeclaredKeepsOthers }
+{}
+
+/// A scope that opens changes what no name is.
+pub fn entering_keeps_names()
+    ensures { EnteredKeepsKinds }
+{}
+
+/// A scope that opens and closes leaves nothing behind, whatever is noted in it.
+pub fn leaving_undoes_entering()
+    ensures { LeftAsEntered }
+{}

@@ -1,0 +1,142 @@
+ghost use Rattle.std.specs.Prelude.{◌≡◌, ◌<◌, [], ◌∷◌, Err, length, vec_len, reverse, OnOk, OnErr, IsErrOf};
+ghost use Rattle.std.specs.Option.{option_map};
+ghost use Rattle.std.specs.Bool.{OnTrue, OnFalse};
+ghost use Rattle.cx_base.specs.declared.stop.Stop.TheVariants.{Fault as Faulty, NoMemory};
+ghost use Rattle.cx_base.specs.declared.kind.Kind.TheVariants as fault;
+ghost use Rattle.cx_scope.specs.Frames.{kind_in, noted, declared, innermost_entry, is_redeclared, redeclaration, entered, left};
+
+use crate::frame::{Frame, Noted};
+use crate::name_kind::NameKind;
+use cx_base::{Fault, Kind, Place, Places, Stop};
+use std::alloc::Global;
+use std::marker::Model;
+
+/// The scopes that are open at a place of a unit ([basic.scope]), each with its names.
+#[derive(Drop)]
+pub struct Scope<'s> {
+    alloc: Global,
+    /// The innermost stands last.
+    frames: Vec<Frame<'s>>,
+}
+
+impl<'s> Model for Scope<'s> {
+    ghost use Rattle.std.specs.Prelude.{reverse};
+    ghost use Rattle.cx_scope.specs.Frames.{Frames};
+
+    ghost Value = { Frames };
+
+    ghost view = { λ s. reverse s.frames.items };
+}
+
+/// What the innermost of these scopes knows of a name.
+fn innermost(frames: &[Frame<'_>], name: &str) -> Option<Noted>
+    ensures { result ≡ option_map (λ e. record { kind = e.kind; at = e.at }) (innermost_entry (reverse frames.now) name.now) }
+{
+    let frame = frames.last()?;
+    frame.get(name)
+}
+
+/// Sets a name's kind in the innermost of these scopes.
+fn put<'s>(
+    frames: &mut Vec<Frame<'s>>,
+    name: &'s str,
+    kind: NameKind,
+    at: Place,
+) -> Result<(), Stop>
+    requires { 0 < vec_len frames.old }
+    ensures ok { OnOk result (reverse frames.new.items ≡ declared (reverse frames.old.items) name.now kind at) }
+    ensures err { OnErr result (frames.new.items ≡ frames.old.items) }
+    ensures only_memory { OnErr result (IsErrOf result NoMemory) }
+{
+    let last = frames.len() - 1;
+    let frame = &mut frames[last];
+    frame.put(name, kind, at)
+}
+
+/// The fault of a declaration at a place, where an earlier one conflicts with it. It takes no memory.
+fn redeclared(alloc: Global, at: Place, earlier: Place) -> Result<(), Stop>
+    ensures { result ≡ Err (Faulty (record { kind = fault.Redeclared; at = at; also = earlier ∷ []; chain = [] })) }
+{
+    let mut also = Places::new(alloc);
+    also.push(earlier)?;
+    Err(Stop::Fault(Fault {
+        kind: Kind::Redeclared,
+        at,
+        also,
+        chain: Places::new(alloc),
+    }))
+}
+
+impl<'s> Scope<'s> {
+    /// No scope is open. Takes no memory.
+    pub fn new(alloc: Global) -> Scope<'s>
+        ensures { result ≡ [] }
+    {
+        Scope {
+            alloc,
+            frames: Vec::new(alloc),
+        }
+    }
+
+    /// Opens a scope with no names inside the others. Refuses for want of memory alone; all is then as before.
+    pub fn enter(&mut self) -> Result<(), Stop>
+        ensures ok { OnOk result (self.new ≡ entered self.old) }
+        ensures err { OnErr result (self.new ≡ self.old) }
+        ensures only_memory { OnErr result (IsErrOf result NoMemory) }
+    {
+        self.frames.push(Frame::new(self.alloc))?;
+        Ok(())
+    }
+
+    /// Closes the innermost scope. Takes no memory.
+    pub fn leave(&mut self)
+        requires { 0 < length self.old }
+        ensures { self.new ≡ left self.old }
+    {
+        self.frames.pop();
+    }
+
+    /// Notes what a name is in the innermost scope, at no place; a name that is there keeps its place, and a
+    /// function template stays one where a function follows. Refuses for want of memory alone; all is then as
+    /// before.
+    pub fn note(&mut self, name: &'s str, kind: NameKind) -> Result<(), Stop>
+        requires { 0 < length self.old }
+        ensures ok { OnOk result (self.new ≡ noted self.old name.now kind) }
+        ensures err { OnErr result (self.new ≡ self.old) }
+        ensures only_memory { OnErr result (IsErrOf result NoMemory) }
+    {
+        put(&mut self.frames, name, kind, Place { line: 0, col: 0 })
+    }
+
+    /// Declares a name in the innermost scope ([basic.scope.scope]). It refuses as Redeclared, at the place of
+    /// this declaration with that of the earlier one, exactly where that scope has the name and not both are
+    /// functions; a function that is there keeps its place, and stays a template where a function follows.
+    /// It refuses for want of memory besides. All is as before where it refuses.
+    pub fn declare(&mut self, name: &'s str, kind: NameKind, at: Place) -> Result<(), Stop>
+        requires { 0 < length self.old }
+        ensures ok { OnOk result (self.new ≡ declared self.old name.now kind at) }
+        ensures redeclared { OnTrue (is_redeclared self.old name.now kind) (result ≡ Err (Faulty (redeclaration self.old name.now at))) }
+        ensures only_memory { OnFalse (is_redeclared self.old name.now kind) (OnErr result (IsErrOf result NoMemory)) }
+        ensures err { OnErr result (self.new ≡ self.old) }
+    {
+        if let Some(earlier) = innermost(&self.frames, name)
+            && !(earlier.kind.is_function() && kind.is_function())
+        {
+            return redeclared(self.alloc, at, earlier.at);
+        }
+        put(&mut self.frames, name, kind, at)
+    }
+
+    /// What a name is: its kind in the innermost scope that has it ([basic.lookup.unqual]), and None where none
+    /// has it. Takes no memory.
+    pub fn kind_of(&self, name: &str) -> Option<NameKind>
+        ensures { result ≡ kind_in self.now name.now }
+    {
+        for frame in self.frames.iter().rev() {
+            if let Some(kind) = frame.kind_of(name) {
+                return Some(kind);
+            }
+        }
+        None
+    }
+}
