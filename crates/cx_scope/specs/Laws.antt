@@ -3,7 +3,7 @@ use Rattle.std.specs.Prelude.{◌≡◌, ◌≢◌, ℕ, List, ◌∷◌, Some, 
 use Rattle.std.specs.Option.{option_map_or}
 use Rattle.cx_base.specs.declared.place.Place.{Place}
 use Rattle.cx_scope.specs.declared.name_kind.NameKind.{NameKind}
-use Rattle.cx_scope.specs.Frames.{Entry, Frame, Frames, kind_after, entry_in, kind_in, noted, declared, entered, left}
+use Rattle.cx_scope.specs.Frames.{Frame, Frames, kind_after, entry_in, kind_in, noted, declared, entered, left}
 
 -- a name that is noted, or declared, has then that kind, or stays a function template where a function follows
 abbrev pub NotedHasKind : Type 0

@@ -3,12 +3,14 @@
 ghost use Rattle.cx_scope.specs.Laws.{NotedHasKind, DeclaredHasKind, NotedKeepsOthers, DeclaredKeepsOthers, EnteredKeepsKinds, LeftAsEntered};
 
 /// A name that is noted or declared has then that kind, or stays a function template where a function follows.
+#[tactic(auto, using(crate::proofs::Lawful::noted_has_kind, crate::proofs::Lawful::declared_has_kind))]
 pub fn declaring_sets_a_name()
     ensures noted { NotedHasKind }
     ensures declared { DeclaredHasKind }
 {}
 
 /// Noting or declaring a name changes what no other name is.
+#[tactic(auto, using(crate::proofs::Lawful::noted_keeps_others, crate::proofs::Lawful::declared_keeps_others))]
 pub fn declaring_keeps_other_names()
     ensures noted { NotedKeepsOthers }
     ensures declared { DeclaredKeepsOthers }
@@ -20,6 +22,7 @@ pub fn entering_keeps_names()
 {}
 
 /// A scope that opens and closes leaves nothing behind, whatever is noted in it.
+#[tactic(auto, using(crate::proofs::Lawful::left_as_entered))]
 pub fn leaving_undoes_entering()
     ensures { LeftAsEntered }
 {}

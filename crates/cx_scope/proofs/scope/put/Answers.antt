@@ -1,0 +1,12 @@
+use Rattle.std.proofs.Common.{◌-◌, ◌<◌, ◌≤◌, suc, length, arith}
+use Rattle.std.proofs.lemmas.Result.{on_ok_weaker}
+use Rattle.cx_scope.proofs.Stack.{declared-set_last}
+use Rattle.cx_scope.proofs.scope.put.Goals as goal
+
+pub returns-clause-ok : goal.returns-clause-ok
+returns-clause-ok c =
+    let within : c.len-last.result - 1 < length c.args.frames.now.items = omega arith in
+    let last : length c.args.frames.now.items ≤ suc (c.len-last.result - 1) = omega arith in
+    on_ok_weaker c.put.result
+    (declared-set_last c.args.frames.now.items (c.len-last.result - 1) c.index_mut-frame.result.now c.put.new.self c.args.name.now c.args.kind c.args.at within last c.index_mut-frame.ensures.value)
+    c.put.ensures.ok
