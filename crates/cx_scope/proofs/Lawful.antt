@@ -1,5 +1,5 @@
 -- The laws of noting, declaring, entering and leaving.
-use Rattle.std.proofs.Common.{◌≡◌, ◌≢◌, ℕ, Bool, true, false, cond, List, [], ◌∷◌, Option, Some, refl, ap, sym, ◌∙◌}
+use Rattle.std.proofs.Common.{◌≡◌, ◌≢◌, ℕ, Bool, true, false, cond, length, List, [], ◌∷◌, Option, Some, refl, ap, sym, ◌∙◌}
 use Rattle.std.specs.Prelude.{fold}
 use Rattle.std.specs.Option.{option_map, option_map_or, option_or}
 use Rattle.std.specs.Str.{bytes_eq}
@@ -7,8 +7,8 @@ use Rattle.std.proofs.lemmas.Bool.{false_from_ne_true}
 use Rattle.std.proofs.lemmas.Slice.Eq.{bytes_eq-Decides}
 use Rattle.cx_base.specs.declared.place.Place.{Place}
 use Rattle.cx_scope.specs.declared.name_kind.NameKind.{NameKind}
-use Rattle.cx_scope.specs.Frames.{Entry, Frame, Frames, kind_after, entry_in, kind_in, with_name, noted, nowhere, left}
-use Rattle.cx_scope.specs.Laws.{NotedHasKind, DeclaredHasKind, NotedKeepsOthers, DeclaredKeepsOthers, LeftAsEntered}
+use Rattle.cx_scope.specs.Frames.{Entry, Frame, Frames, NamesOnce, HasEachOnce, kind_after, entry_in, kind_in, with_name, noted, declared, nowhere, left}
+use Rattle.cx_scope.specs.Laws.{NotedHasKind, DeclaredHasKind, NotedKeepsOthers, DeclaredKeepsOthers, NotedKeepsOuter, DeclaredKeepsOuter, LeftAsEntered}
 
 same-self : (name : List ℕ) → bytes_eq name name ≡ true
 same-self name = (bytes_eq-Decides name name).1 refl
@@ -59,9 +59,37 @@ declared_keeps_others (f ∷ fs) name other kind at d =
 pub noted_keeps_others : NotedKeepsOthers
 noted_keeps_others frames name other kind d = declared_keeps_others frames name other kind nowhere d
 
+pub declared_keeps_outer : DeclaredKeepsOuter
+declared_keeps_outer [] name kind at = refl
+declared_keeps_outer (f ∷ fs) name kind at = refl
+
+pub noted_keeps_outer : NotedKeepsOuter
+noted_keeps_outer frames name kind = declared_keeps_outer frames name kind nowhere
+
 left_behind : (f : Frame) (frames : Frames) (names : List (List ℕ × NameKind)) → left (fold (λ now n. noted now n.0 n.1) (f ∷ frames) names) ≡ frames
 left_behind f frames [] = refl
 left_behind f frames (n ∷ ns) = left_behind (with_name f n.0 n.1 nowhere) frames ns
 
 pub left_as_entered : LeftAsEntered
 left_as_entered frames names = left_behind [] frames names
+
+-- a name that is put stands once
+once-with_name : (f : Frame) (name : List ℕ) (kind : NameKind) (at : Place) → NamesOnce f → NamesOnce (with_name f name kind at)
+once-with_name [] name kind at h = (refl, tt)
+once-with_name (e ∷ es) name kind at h = here (bytes_eq name e.name) refl (once-with_name es name kind at h.1)
+  where
+    here : (b : Bool) → bytes_eq name e.name ≡ b → NamesOnce (with_name es name kind at)
+        → NamesOnce (cond b (record { name = e.name; kind = kind_after e.kind kind; at = e.at } ∷ es) (e ∷ with_name es name kind at))
+    here true b k = h
+    here false b k =
+        let apart : name ≢ e.name = λ s. cc ((bytes_eq-Decides name e.name).1 s, b) in
+        (entry-with_name es name e.name kind at apart ∙ h.0, k)
+
+pub once-declared : (frames : Frames) (name : List ℕ) (kind : NameKind) (at : Place) → HasEachOnce frames → HasEachOnce (declared frames name kind at)
+once-declared [] name kind at h = tt
+once-declared (f ∷ fs) name kind at h = (once-with_name f name kind at h.0, h.1)
+
+-- as many scopes are open as before
+pub length-declared : (frames : Frames) (name : List ℕ) (kind : NameKind) (at : Place) → length (declared frames name kind at) ≡ length frames
+length-declared [] name kind at = refl
+length-declared (f ∷ fs) name kind at = refl

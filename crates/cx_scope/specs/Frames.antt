@@ -1,5 +1,5 @@
 -- Scopes, and the names that they hold ([basic.scope]).
-use Rattle.std.specs.Prelude.{ℕ, Bool, true, false, ◌&&◌, not, List, [], ◌∷◌, Option, Some, None, if◌then◌else◌}
+use Rattle.std.specs.Prelude.{◌≡◌, ℕ, Bool, true, false, ◌&&◌, not, List, [], ◌∷◌, Option, Some, None, if◌then◌else◌}
 use Rattle.std.specs.Option.{option_map, option_map_or, option_or}
 use Rattle.std.specs.Str.{bytes_eq}
 use Rattle.cx_base.specs.declared.fault.Fault.{Fault}
@@ -44,6 +44,16 @@ kind_after earlier later = later
 abbrev pub entry_in : Frame → List ℕ → Option Entry
 entry_in [] name = None
 entry_in (e ∷ es) name = if bytes_eq name e.name then Some e else entry_in es name
+
+-- Each name stands once in a scope.
+abbrev pub NamesOnce : Frame → Type 0
+NamesOnce [] = Unit {0}
+NamesOnce (e ∷ es) = (entry_in es e.name ≡ None) × NamesOnce es
+
+-- Each name stands once in each of the scopes.
+abbrev pub HasEachOnce : Frames → Type 0
+HasEachOnce [] = Unit {0}
+HasEachOnce (f ∷ fs) = NamesOnce f × HasEachOnce fs
 
 -- Unqualified lookup ([basic.lookup.unqual]): what a name is in the innermost scope that has it.
 abbrev pub kind_in : Frames → List ℕ → Option NameKind

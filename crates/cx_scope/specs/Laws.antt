@@ -22,6 +22,13 @@ abbrev pub DeclaredKeepsOthers : Type 0
 DeclaredKeepsOthers = (frames : Frames) (name other : List ℕ) (kind : NameKind) (at : Place)
     → name ≢ other → kind_in (declared frames name kind at) other ≡ kind_in frames other
 
+-- the scopes around the innermost stay as they are
+abbrev pub NotedKeepsOuter : Type 0
+NotedKeepsOuter = (frames : Frames) (name : List ℕ) (kind : NameKind) → left (noted frames name kind) ≡ left frames
+
+abbrev pub DeclaredKeepsOuter : Type 0
+DeclaredKeepsOuter = (frames : Frames) (name : List ℕ) (kind : NameKind) (at : Place) → left (declared frames name kind at) ≡ left frames
+
 -- a scope that opens changes no name
 abbrev pub EnteredKeepsKinds : Type 0
 EnteredKeepsKinds = (frames : Frames) (name : List ℕ) → kind_in (entered frames) name ≡ kind_in frames name

@@ -1,6 +1,6 @@
 //! What follows from the definitions. A caller that needs a law calls its function, which does nothing.
 
-ghost use Rattle.cx_scope.specs.Laws.{NotedHasKind, DeclaredHasKind, NotedKeepsOthers, DeclaredKeepsOthers, EnteredKeepsKinds, LeftAsEntered};
+ghost use Rattle.cx_scope.specs.Laws.{NotedHasKind, DeclaredHasKind, NotedKeepsOthers, DeclaredKeepsOthers, NotedKeepsOuter, DeclaredKeepsOuter, EnteredKeepsKinds, LeftAsEntered};
 
 /// A name that is noted or declared has then that kind, or stays a function template where a function follows.
 #[tactic(auto, using(crate::proofs::Lawful::noted_has_kind, crate::proofs::Lawful::declared_has_kind))]
@@ -14,6 +14,13 @@ pub fn declaring_sets_a_name()
 pub fn declaring_keeps_other_names()
     ensures noted { NotedKeepsOthers }
     ensures declared { DeclaredKeepsOthers }
+{}
+
+/// Noting or declaring a name changes no scope but the innermost.
+#[tactic(auto, using(crate::proofs::Lawful::noted_keeps_outer, crate::proofs::Lawful::declared_keeps_outer))]
+pub fn declaring_keeps_outer_scopes()
+    ensures noted { NotedKeepsOuter }
+    ensures declared { DeclaredKeepsOuter }
 {}
 
 /// A scope that opens changes what no name is.

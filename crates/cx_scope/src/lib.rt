@@ -7,8 +7,8 @@ mod name_kind;
 mod scope;
 
 pub use laws::{
-    declaring_keeps_other_names, declaring_sets_a_name, entering_keeps_names,
-    leaving_undoes_entering,
+    declaring_keeps_other_names, declaring_keeps_outer_scopes, declaring_sets_a_name,
+    entering_keeps_names, leaving_undoes_entering,
 };
 pub use name_kind::NameKind;
 pub use scope::Scope;

@@ -1,9 +1,9 @@
-ghost use Rattle.std.specs.Prelude.{◌≡◌, ◌<◌, [], ◌∷◌, Err, length, vec_len, reverse, OnOk, OnErr, IsErrOf};
+ghost use Rattle.std.specs.Prelude.{◌≡◌, ◌+◌, ◌<◌, [], ◌∷◌, Err, length, vec_len, reverse, OnOk, OnErr, IsErrOf};
 ghost use Rattle.std.specs.Option.{option_map};
 ghost use Rattle.std.specs.Bool.{OnTrue, OnFalse};
 ghost use Rattle.cx_base.specs.declared.stop.Stop.TheVariants.{Fault as Faulty, NoMemory};
 ghost use Rattle.cx_base.specs.declared.kind.Kind.TheVariants as fault;
-ghost use Rattle.cx_scope.specs.Frames.{kind_in, noted, declared, innermost_entry, is_redeclared, redeclaration, entered, left};
+ghost use Rattle.cx_scope.specs.Frames.{kind_in, noted, declared, innermost_entry, is_redeclared, redeclaration, entered, left, HasEachOnce};
 
 use crate::frame::{Frame, Noted};
 use crate::name_kind::NameKind;
@@ -25,7 +25,11 @@ impl<'s> Model for Scope<'s> {
 
     ghost Value = { Frames };
 
+    ghost use Rattle.cx_scope.specs.Frames.{HasEachOnce};
+
     ghost view = { λ s. reverse s.frames.items };
+
+    ghost invariant = { λ s. HasEachOnce (reverse s.frames.items) };
 }
 
 /// What the innermost of these scopes knows of a name.
@@ -45,6 +49,8 @@ fn put<'s>(
 ) -> Result<(), Stop>
     requires { 0 < vec_len frames.old }
     ensures ok { OnOk result (reverse frames.new.items ≡ declared (reverse frames.old.items) name.now kind at) }
+    ensures once { HasEachOnce (reverse frames.old.items) → HasEachOnce (reverse frames.new.items) }
+    ensures depth { vec_len frames.new ≡ vec_len frames.old }
     ensures err { OnErr result (frames.new.items ≡ frames.old.items) }
     ensures only_memory { OnErr result (IsErrOf result NoMemory) }
 {
@@ -81,6 +87,7 @@ impl<'s> Scope<'s> {
     /// Opens a scope with no names inside the others. Refuses for want of memory alone; all is then as before.
     pub fn enter(&mut self) -> Result<(), Stop>
         ensures ok { OnOk result (self.new ≡ entered self.old) }
+        ensures depth { OnOk result (length self.new ≡ length self.old + 1) }
         ensures err { OnErr result (self.new ≡ self.old) }
         ensures only_memory { OnErr result (IsErrOf result NoMemory) }
     {
@@ -91,7 +98,8 @@ impl<'s> Scope<'s> {
     /// Closes the innermost scope. Takes no memory.
     pub fn leave(&mut self)
         requires { 0 < length self.old }
-        ensures { self.new ≡ left self.old }
+        ensures left { self.new ≡ left self.old }
+        ensures depth { length self.new + 1 ≡ length self.old }
     {
         self.frames.pop();
     }
@@ -102,6 +110,7 @@ impl<'s> Scope<'s> {
     pub fn note(&mut self, name: &'s str, kind: NameKind) -> Result<(), Stop>
         requires { 0 < length self.old }
         ensures ok { OnOk result (self.new ≡ noted self.old name.now kind) }
+        ensures depth { length self.new ≡ length self.old }
         ensures err { OnErr result (self.new ≡ self.old) }
         ensures only_memory { OnErr result (IsErrOf result NoMemory) }
     {
@@ -115,6 +124,7 @@ impl<'s> Scope<'s> {
     pub fn declare(&mut self, name: &'s str, kind: NameKind, at: Place) -> Result<(), Stop>
         requires { 0 < length self.old }
         ensures ok { OnOk result (self.new ≡ declared self.old name.now kind at) }
+        ensures depth { length self.new ≡ length self.old }
         ensures redeclared { OnTrue (is_redeclared self.old name.now kind) (result ≡ Err (Faulty (redeclaration self.old name.now at))) }
         ensures only_memory { OnFalse (is_redeclared self.old name.now kind) (OnErr result (IsErrOf result NoMemory)) }
         ensures err { OnErr result (self.new ≡ self.old) }
@@ -138,5 +148,12 @@ impl<'s> Scope<'s> {
             }
         }
         None
+    }
+
+    /// No scope has a name twice. Does nothing, and takes no memory.
+    pub fn names_are_unique(&self)
+        ensures { HasEachOnce self.now }
+    {
+        let _ = &self.frames;
     }
 }
