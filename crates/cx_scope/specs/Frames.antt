@@ -80,7 +80,7 @@ abbrev pub innermost_entry : Frames → List ℕ → Option Entry
 innermost_entry [] name = None
 innermost_entry (f ∷ fs) name = entry_in f name
 
--- A declaration conflicts with an earlier one of the name in its scope ([basic.scope.scope]), if not both are functions.
+-- A declaration conflicts with an earlier one of the name in its scope ([basic.scope.declarative]), if not both are functions.
 abbrev pub is_redeclared : Frames → List ℕ → NameKind → Bool
 is_redeclared frames name kind = option_map_or (λ e. not (is_function e.kind && is_function kind)) (innermost_entry frames name) false
 

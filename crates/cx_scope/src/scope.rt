@@ -117,7 +117,7 @@ impl<'s> Scope<'s> {
         put(&mut self.frames, name, kind, Place { line: 0, col: 0 })
     }
 
-    /// Declares a name in the innermost scope ([basic.scope.scope]). It refuses as Redeclared, at the place of
+    /// Declares a name in the innermost scope ([basic.scope.declarative]). It refuses as Redeclared, at the place of
     /// this declaration with that of the earlier one, exactly where that scope has the name and not both are
     /// functions; a function that is there keeps its place, and stays a template where a function follows.
     /// It refuses for want of memory besides. All is as before where it refuses.
