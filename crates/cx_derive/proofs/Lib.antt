@@ -1,0 +1,12 @@
+pub mod RulesKeep
+pub mod Soundness
+pub mod Walks
+pub mod Known
+pub mod Numbers
+pub mod Depths
+pub mod Found
+pub mod Stack
+pub mod Leaves
+pub mod StepLemmas
+pub mod Order
+pub mod DecisionLemmas
