@@ -1,101 +1,66 @@
--- The tokens of a text.
-use Rattle.std.specs.Prelude.{ℕ, ◌+◌, ◌*◌, ◌-◌, Bool, true, false, ◌||◌, ◌&&◌, not, nat_le, ◌==◌, if◌then◌else◌, List, [], ◌∷◌, ◌++◌, map}
-use Rattle.std.specs.Str.{bytes_eq}
-use Rattle.std.specs.List.{list_all}
+-- What the rows of the table spell. A piece of a text is a list of characters.
+use Rattle.std.specs.Prelude.{◌≡◌, ◌≢◌, ◌⊎◌, ℕ, Bool, true, false, ◌||◌, ◌&&◌, not, List, [], ◌∷◌, ◌++◌, codes, encode_utf8_all, IsTrue, Result, Ok}
+use Rattle.std.specs.List.{list_all, concat, AllByRecursion}
+use Rattle.cx_base.specs.Refusal.{Refusal, Refused, ◌>>=◌}
+use Rattle.cx_base.specs.declared.kind.Kind.{Kind}
 use Rattle.cx_base.specs.declared.place.Place.{Place}
 use Rattle.cx_lexer.specs.declared.token.Token.{Token}
 use Rattle.cx_lexer.specs.declared.token.TokenKind.{TokenKind}
 use Rattle.cx_lexer.specs.declared.token.TokenKind.TheVariants as kind
-use Rattle.cx_lexer.specs.Words.{is_reserved}
+use Rattle.cx_lexer.specs.Characters.{is_digit, begins_name, continues_name, continues_number}
+use Rattle.cx_lexer.specs.Words.{has_word, reserved_words, alternative_tokens, punctuators}
 
--- Space, tab and the bytes 0A to 0D.
-unfoldable pub is_blank : ℕ → Bool
-is_blank b = b == 32 || (nat_le 9 b && nat_le b 13)
+-- The text of a piece: its characters in UTF-8.
+abbrev pub text_of : List ℕ → List ℕ
+text_of piece = encode_utf8_all piece
 
-unfoldable pub is_digit : ℕ → Bool
-is_digit b = nat_le 48 b && nat_le b 57
+-- An identifier ([lex.name]): what begins a name, then what goes on with it.
+unfoldable pub is_identifier : List ℕ → Bool
+is_identifier [] = false
+is_identifier (c ∷ cs) = begins_name c && list_all continues_name cs
 
--- A letter, a digit or `_`.
-unfoldable pub is_word_byte : ℕ → Bool
-is_word_byte b = is_digit b || (nat_le 65 b && nat_le b 90) || (nat_le 97 b && nat_le b 122) || b == 95
+-- A reserved word.
+unfoldable pub is_word : List ℕ → Bool
+is_word piece = has_word reserved_words (text_of piece)
 
--- `( ) { } ;`
-unfoldable pub is_punct : ℕ → Bool
-is_punct b = b == 40 || b == 41 || b == 123 || b == 125 || b == 59
+-- A punctuator, or an alternative token.
+unfoldable pub is_punctuator : List ℕ → Bool
+is_punctuator piece = has_word punctuators (text_of piece) || has_word alternative_tokens (text_of piece)
 
--- The place behind a byte: 0A ends a line, and every other byte takes a column.
-abbrev pub behind : Place → ℕ → Place
-behind at b = if b == 10 then record { line = at.line + 1; col = 1 } else record { line = at.line; col = at.col + 1 }
-
--- The place behind a text that begins at a place.
-abbrev pub place_behind : Place → List ℕ → Place
-place_behind at [] = at
-place_behind at (b ∷ bs) = place_behind (behind at b) bs
-
--- Where a unit begins.
-abbrev pub start : Place
-start = record { line = 1; col = 1 }
-
--- A piece of a text: its bytes, and the place of the first.
-pub record Piece : Type 0 where
-  pub text : List ℕ
-  pub at : Place
-
--- whether a text begins with a letter, a digit or `_`
-abbrev pub goes_on : List ℕ → Bool
-goes_on [] = false
-goes_on (b ∷ bs) = is_word_byte b
-
--- a byte before the first piece
-abbrev pub joined : ℕ → Place → List Piece → List Piece
-joined b at [] = []
-joined b at (p ∷ ps) = record { text = b ∷ p.text; at = at } ∷ ps
-
--- The pieces of a text that begins at a place: each longest run of letters, digits and `_`, and each other byte
--- that is no blank.
-unfoldable pub pieces : Place → List ℕ → List Piece
-pieces at [] = []
-pieces at (b ∷ bs) =
-    if is_blank b then pieces (behind at b) bs
-    else if is_word_byte b && goes_on bs then joined b at (pieces (behind at b) bs)
-    else record { text = b ∷ []; at = at } ∷ pieces (behind at b) bs
-
--- The number that decimal digits say.
-abbrev pub number_before : ℕ → List ℕ → ℕ
-number_before n [] = n
-number_before n (d ∷ ds) = number_before (10 * n + (d - 48)) ds
-
-abbrev pub number_of : List ℕ → ℕ
-number_of digits = number_before 0 digits
-
--- A decimal literal of type int: `0`, or digits without a leading zero, at most 2,147,483,647.
-unfoldable pub is_literal : List ℕ → Bool
-is_literal [] = false
-is_literal (d ∷ ds) = list_all is_digit (d ∷ ds) && (not (d == 48) || bytes_eq ds []) && nat_le (number_of (d ∷ ds)) 2147483647
-
--- A name: a letter or `_`, then letters, digits and `_`; no reserved word.
+-- A name: an identifier that is no reserved word and no alternative token.
 unfoldable pub is_name : List ℕ → Bool
-is_name [] = false
-is_name (b ∷ bs) = list_all is_word_byte (b ∷ bs) && not (is_digit b) && not (is_reserved (b ∷ bs))
+is_name piece = is_identifier piece && not (is_word piece) && not (is_punctuator piece)
 
-abbrev pub is_punctuator : List ℕ → Bool
-is_punctuator [] = false
-is_punctuator (b ∷ []) = is_punct b
-is_punctuator (b ∷ c ∷ bs) = false
+-- whether each character goes on with a number behind the one before it
+abbrev pub all_continue : ℕ → List ℕ → Bool
+all_continue before [] = true
+all_continue before (c ∷ cs) = continues_number before c && all_continue c cs
 
--- What a piece is.
-unfoldable pub kind_of : List ℕ → TokenKind
-kind_of text =
-    if is_name text then kind.Name
-    else if is_reserved text then kind.Word
-    else if is_literal text then kind.Int
-    else if is_punctuator text then kind.Punct
-    else kind.Stray
+-- A number ([lex.ppnumber]): a digit and what goes on with it, whether or not it is a literal.
+unfoldable pub is_number : List ℕ → Bool
+is_number [] = false
+is_number (c ∷ cs) = is_digit c && all_continue c cs
 
--- whether a kind is that of the end
-abbrev pub is_end : TokenKind → Bool
-is_end kind.End = true
-is_end other = false
+-- One character of a string: any but a quotation mark, a backslash and a newline, or a backslash and any but a newline.
+abbrev pub IsStringCharacter : List ℕ → Type 0
+IsStringCharacter piece = ((c : ℕ) × (piece ≡ c ∷ []) × (c ≢ 34) × (c ≢ 92) × (c ≢ 10)) ⊎ ((c : ℕ) × (piece ≡ codes "\\" ++ c ∷ []) × (c ≢ 10))
+
+-- A string ([lex.string]): a quotation mark, characters of a string, and a quotation mark.
+abbrev pub IsString : List ℕ → Type 0
+IsString piece = (characters : List (List ℕ)) × AllByRecursion IsStringCharacter characters × (piece ≡ codes "\"" ++ (concat characters ++ codes "\""))
+
+-- The rows of the table: which pieces spell a token of a kind. A number need not be a literal. The end has no spelling.
+abbrev pub IsSpelling : TokenKind → List ℕ → Type 0
+IsSpelling kind.Name piece = IsTrue (is_name piece)
+IsSpelling kind.Word piece = IsTrue (is_word piece)
+IsSpelling kind.Int piece = IsTrue (is_number piece)
+IsSpelling kind.Str piece = IsString piece
+IsSpelling kind.Punct piece = IsTrue (is_punctuator piece)
+IsSpelling kind.End piece = ⊥
+
+-- Some row spells a piece.
+abbrev pub IsSomeSpelling : List ℕ → Type 0
+IsSomeSpelling piece = (k : TokenKind) × IsSpelling k piece
 
 -- A token without where it lies in memory.
 pub record TokenTree : Type 0 where
@@ -103,24 +68,16 @@ pub record TokenTree : Type 0 where
   pub text : List ℕ
   pub at : Place
 
--- What is no token of the language keeps its place alone.
-abbrev pub text_as : TokenKind → List ℕ → List ℕ
-text_as kind.Stray text = []
-text_as other text = text
-
-abbrev pub token_of : Piece → TokenTree
-token_of p = record { kind = kind_of p.text; text = text_as (kind_of p.text) p.text; at = p.at }
-
 abbrev pub end_at : Place → TokenTree
 end_at at = record { kind = kind.End; text = []; at = at }
 
--- The tokens of a text that begins at a place, the end last.
-unfoldable pub tokens_from : Place → List ℕ → List TokenTree
-tokens_from at bytes = map token_of (pieces at bytes) ++ end_at (place_behind at bytes) ∷ []
+-- a token before those that are read
+abbrev pub prepend : TokenTree → Result (List TokenTree) Refusal → Result (List TokenTree) Refusal
+prepend t rest = rest >>= (λ ts. Ok (t ∷ ts))
 
--- The tokens of a unit.
-unfoldable pub tokens : List ℕ → List TokenTree
-tokens bytes = tokens_from start bytes
+-- the fault of a kind at a place
+abbrev pub fault_at : Kind → Place → Refusal
+fault_at k at = Refused (record { kind = k; at = at; also = []; chain = [] })
 
 -- what a token of the code stands for
 abbrev pub token_tree : Token → TokenTree

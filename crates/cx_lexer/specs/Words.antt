@@ -1,4 +1,5 @@
--- The reserved words ([lex.key]) and the alternative tokens ([lex.digraph]): none of them is a name.
+-- The reserved words ([lex.key]), the punctuators and their alternative tokens ([lex.operators], [lex.digraph]).
+-- The code points of an ASCII text are its bytes.
 use Rattle.std.specs.Prelude.{ℕ, Bool, List, [], ◌∷◌, ◌++◌, codes}
 use Rattle.std.specs.Str.{bytes_eq}
 use Rattle.std.specs.List.{list_any}
@@ -12,7 +13,7 @@ used_words =
     ∷ codes "static_assert" ∷ codes "static_cast" ∷ codes "struct" ∷ codes "template" ∷ codes "true" ∷ codes "typename"
     ∷ codes "unsigned" ∷ codes "using" ∷ codes "void" ∷ codes "while" ∷ codes "__is_same" ∷ codes "__out" ∷ []
 
--- The alternative tokens.
+-- The alternative tokens: other spellings of `&& & | ~ ! || ^ &= |= ^= !=`.
 unfoldable pub alternative_tokens : List (List ℕ)
 alternative_tokens =
     codes "and" ∷ codes "bitand" ∷ codes "bitor" ∷ codes "compl" ∷ codes "not" ∷ codes "or" ∷ codes "xor"
@@ -35,9 +36,34 @@ unused_words =
 unfoldable pub has_word : List (List ℕ) → List ℕ → Bool
 has_word words text = list_any (λ word. bytes_eq text word) words
 
--- All of them.
+-- The reserved words: none of them is a name.
 unfoldable pub reserved_words : List (List ℕ)
-reserved_words = used_words ++ alternative_tokens ++ unused_words
+reserved_words = used_words ++ unused_words
 
-unfoldable pub is_reserved : List ℕ → Bool
-is_reserved text = has_word reserved_words text
+-- the punctuators of three characters, of two, and of one
+unfoldable pub three_characters : List (List ℕ)
+three_characters = codes "..." ∷ codes "->*" ∷ codes "<=>" ∷ codes "<<=" ∷ codes ">>=" ∷ []
+
+unfoldable pub two_characters : List (List ℕ)
+two_characters =
+    codes "::" ∷ codes ".*" ∷ codes "->" ∷ codes "+=" ∷ codes "-=" ∷ codes "*=" ∷ codes "/=" ∷ codes "%=" ∷ codes "^=" ∷ codes "&=" ∷ codes "|=" ∷ codes "=="
+    ∷ codes "!=" ∷ codes "<=" ∷ codes ">=" ∷ codes "&&" ∷ codes "||" ∷ codes "<<" ∷ codes ">>" ∷ codes "++" ∷ codes "--" ∷ []
+
+unfoldable pub one_character : List (List ℕ)
+one_character =
+    codes "{" ∷ codes "}" ∷ codes "(" ∷ codes ")" ∷ codes "[" ∷ codes "]" ∷ codes ";" ∷ codes ":" ∷ codes "," ∷ codes "." ∷ codes "?" ∷ codes "~"
+    ∷ codes "!" ∷ codes "+" ∷ codes "-" ∷ codes "*" ∷ codes "/" ∷ codes "%" ∷ codes "^" ∷ codes "&" ∷ codes "|" ∷ codes "=" ∷ codes "<" ∷ codes ">" ∷ []
+
+-- The punctuators, none behind a shorter one.
+unfoldable pub punctuators : List (List ℕ)
+punctuators = three_characters ++ (two_characters ++ one_character)
+
+-- The suffixes of a literal: u or U, ll or LL, and both in either order.
+unfoldable pub unsigned_suffixes : List (List ℕ)
+unsigned_suffixes = codes "u" ∷ codes "U" ∷ []
+
+unfoldable pub long_suffixes : List (List ℕ)
+long_suffixes = codes "ll" ∷ codes "LL" ∷ []
+
+unfoldable pub unsigned_long_suffixes : List (List ℕ)
+unsigned_long_suffixes = codes "ull" ∷ codes "uLL" ∷ codes "Ull" ∷ codes "ULL" ∷ codes "llu" ∷ codes "LLu" ∷ codes "llU" ∷ codes "LLU" ∷ []

@@ -1,33 +1,36 @@
 ghost use Rattle.std.specs.Prelude.{◌≡◌};
-ghost use Rattle.cx_lexer.specs.Tokens.{kind_of};
-ghost use Rattle.cx_lexer.specs.Division.{IsPiece};
+ghost use Rattle.cx_lexer.specs.Reading.{word_kind, kind_by};
 
-use crate::bytes::{is_digit, is_punct, is_word_byte};
-use crate::literal::is_literal;
+use crate::classes::{begins_name, is_digit};
 use crate::token::TokenKind;
-use crate::words::is_reserved;
+use crate::words::{is_alternative, is_reserved};
 
-/// What a piece of a text is.
-pub(crate) fn classify(piece: &[u8]) -> TokenKind
-    requires { IsPiece piece.now }
-    ensures { result ≡ kind_of piece.now }
+/// The kind of an identifier's text.
+#[tactic(auto, unfolding(crate::specs::Reading::word_kind))]
+fn word_kind(text: &[u8]) -> TokenKind
+    ensures { result ≡ word_kind text.now }
 {
-    let first = piece[0];
-    if is_digit(first) {
-        if is_literal(piece) {
-            TokenKind::Int
-        } else {
-            TokenKind::Stray
-        }
-    } else if is_word_byte(first) {
-        if is_reserved(piece) {
-            TokenKind::Word
-        } else {
-            TokenKind::Name
-        }
-    } else if is_punct(first) {
+    if is_reserved(text) {
+        TokenKind::Word
+    } else if is_alternative(text) {
         TokenKind::Punct
     } else {
-        TokenKind::Stray
+        TokenKind::Name
+    }
+}
+
+/// The kind of a token that begins with a character and has a text.
+#[tactic(auto, unfolding(crate::specs::Reading::kind_by))]
+pub(crate) fn kind_by(first: char, text: &str) -> TokenKind
+    ensures { result ≡ kind_by first text.now }
+{
+    if begins_name(first) {
+        word_kind(text.as_bytes())
+    } else if is_digit(first) {
+        TokenKind::Int
+    } else if first == '"' {
+        TokenKind::Str
+    } else {
+        TokenKind::Punct
     }
 }

@@ -1,17 +1,22 @@
-//! The tokens of a unit ([lex]): slices of its text, in order, each with its place.
+//! The tokens of a unit ([lex], [next_token]): slices of its text, in order, each with its place.
 #![tactic(auto)]
 
-mod bytes;
+mod characters;
+mod classes;
 mod cursor;
 mod kinds;
 mod laws;
 mod lexing;
-mod literal;
+mod literals;
+mod pieces;
+mod scan;
+mod skipped;
 mod token;
 mod words;
 
 pub use laws::one_division;
-pub use lexing::lex;
+pub use lexing::{lex, next_token};
+pub use literals::literal;
 pub use token::{Token, TokenKind};
 
 #[cfg(test)]

@@ -3,21 +3,21 @@ use cx_base::Place;
 /// What a token is.
 #[derive(Clone, Copy, Debug, PartialEq, Eq)]
 pub enum TokenKind {
-    /// A name: no reserved word.
+    /// A name: no reserved word and no alternative token.
     Name,
     /// A reserved word.
     Word,
-    /// A decimal literal that is a value of `int`.
+    /// A literal that is a value of one of its types.
     Int,
-    /// One of `( ) { } ;`.
+    /// A string.
+    Str,
+    /// A punctuator, also one that an alternative token spells.
     Punct,
     /// The end of the text.
     End,
-    /// What is no token of the language: a byte, or a number of another form.
-    Stray,
 }
 
-/// A token: a slice of the text, empty for `End` and `Stray`, and the place of its first byte.
+/// A token: a slice of the text, empty for `End`, and the place of its first byte.
 #[derive(Clone, Copy, Debug)]
 pub struct Token<'s> {
     pub kind: TokenKind,

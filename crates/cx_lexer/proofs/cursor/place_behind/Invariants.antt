@@ -1,5 +1,5 @@
 use Rattle.std.proofs.Common.{◌≡◌, ◌+◌, ◌<◌, ◌^◌, length, drop}
-use Rattle.cx_lexer.specs.Tokens.{place_behind}
+use Rattle.cx_lexer.specs.Places.{place_behind}
 use Rattle.cx_lexer.proofs.cursor.place_behind.Given as goal
 
 abbrev pub invariant-loop-byte : goal.invariant-loop-byte

@@ -1,27 +1,19 @@
-use Rattle.std.proofs.Common.{◌≡◌, length, map, ap, sym, subst, arith, rules}
-use Rattle.std.proofs.lemmas.List.{length-map}
-use Rattle.std.proofs.lemmas.Grind.{common_steps}
-use Rattle.cx_lexer.specs.Tokens.{token_tree, tokens}
-use Rattle.cx_lexer.specs.Division.{IsDivision, AreLexed}
-use Rattle.cx_lexer.proofs.OneDivision.{exists, lexed}
-use Rattle.cx_lexer.proofs.Pieces.{length-tokens}
+use Rattle.std.proofs.Common.{◌∙◌}
+use Rattle.cx_base.specs.Refusal.{Refused}
+use Rattle.cx_lexer.proofs.Steps.{lexed_text, lexed_bad}
+use Rattle.cx_lexer.proofs.OneDivision.{only, read_as, gives_read, gives_only}
 use Rattle.cx_lexer.proofs.lexing.lex.Goals as goal
 
-pub loop-token-init : goal.loop-token-init
-unfolding tokens
-loop-token-init c = search rules
+pub returns-in-Ok : goal.returns-in-Ok
+returns-in-Ok c =
+    let text = lexed_text c.args.src.now c.in-Ok.text.now c.in-Ok.ensures.cases.0 c.in-Ok.ensures.cases.1 in
+    record {
+      exact = rw text c.lex_text.ensures;
+      divides = gives_read _ c.args.src.now _ _ text c.lex_text.ensures;
+      only = gives_only _ c.args.src.now _ _ text c.lex_text.ensures;
+    }
 
-pub returns-clause-divided : goal.returns-clause-divided
-returns-clause-divided c =
-    let exact : map token_tree c.push-2.new.self.items ≡ tokens c.args.src.now = grind (arith, common_steps) in
-    subst (IsDivision c.args.src.now) (sym exact) (exists c.args.src.now)
-
-pub returns-clause-lexed : goal.returns-clause-lexed
-returns-clause-lexed c =
-    let exact : map token_tree c.push-2.new.self.items ≡ tokens c.args.src.now = grind (arith, common_steps) in
-    subst AreLexed (sym exact) (lexed c.args.src.now)
-
-pub returns-clause-bounded : goal.returns-clause-bounded
-returns-clause-bounded c =
-    let exact : map token_tree c.push-2.new.self.items ≡ tokens c.args.src.now = grind (arith, common_steps) in
-    omega (arith, length-map c.push-2.new.self.items token_tree, ap length exact, length-tokens c.args.src.now)
+pub returns-in-Err : goal.returns-in-Err
+returns-in-Err c =
+    let exact = lexed_bad c.args.src.now c.valid_up_to.result c.place_at-at.result (Refused c.fault.result) c.in-Err.ensures.cases.0 (c.valid_up_to.ensures ∙ c.in-Err.ensures.valid_len) c.place_at-at.ensures c.fault.ensures in
+    record { exact = exact; divides = read_as c.args.src.now _ exact; only = λ r are. only c.args.src.now r are ∙ exact }

@@ -1,0 +1,12 @@
+use Rattle.std.proofs.Common.{◌≡◌, length}
+use Rattle.std.specs.Str.{chars}
+use denote.Shadow.{shadow}
+use denote.Text.{Utf8}
+use Rattle.cx_lexer.specs.Reading.{behind_line}
+use Rattle.cx_lexer.proofs.scan.behind_line.Given as goal
+
+abbrev pub invariant-loop-character : goal.invariant-loop-character
+invariant-loop-character l = record { utf8 : shadow (Utf8 l.rest); goes_on : behind_line (chars l.rest) ≡ behind_line (chars l.fn.text) }
+
+abbrev pub decreases-loop-character : goal.decreases-loop-character
+decreases-loop-character l = length l.rest
