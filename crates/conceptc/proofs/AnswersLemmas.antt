@@ -1,5 +1,5 @@
 -- What follows from a decision that has its cause and was said.
-use Rattle.std.proofs.Common.{◌≡◌, ◌≤◌, ◌<◌, ◌⊎◌, inl, inr, ℕ, List, [], ◌∷◌, ◌++◌, length, Option, Some, None, Result, Ok, Err, refl, sym, ap, ◌∙◌, subst, arith, length-append}
+use Rattle.std.proofs.Common.{◌≡◌, ◌<◌, ◌⊎◌, inl, inr, ℕ, List, [], ◌++◌, length, Option, Some, None, Result, Ok, Err, refl, sym, ap, ◌∙◌, subst, arith, length-append}
 use Rattle.std.proofs.lemmas.List.{append-nil}
 use Rattle.cx_base.specs.Refusal.{Refusal, Refused, Passed}
 use Rattle.cx_base.specs.declared.fault.Fault.{Fault}
@@ -7,8 +7,7 @@ use Rattle.cx_base.specs.declared.limit.Limit.{Limit}
 use Rattle.cx_base.specs.declared.limit.Limit.TheVariants as limit
 use Rattle.cx_base.specs.declared.place.Place.{Place}
 use Rattle.cx_io.specs.Count.{Rose}
-use Rattle.cx_io.specs.Sink.{Appends, AppendsFront}
-use Rattle.cx_io.specs.Source.{Consumes, IsAtEnd}
+use Rattle.cx_io.specs.Sink.{Appends}
 use Rattle.cx_plain.specs.declared.tree.PlainUnit.{PlainUnit}
 use Rattle.cx_plain.specs.PlainText.{plain_text}
 use Rattle.conceptc.specs.declared.command.Command.{Command}

@@ -1,14 +1,12 @@
 -- One text put behind another.
-use Rattle.std.proofs.Common.{◌≡◌, ℕ, zero, suc, ◌+◌, ◌≤◌, ◌<◌, List, [], ◌∷◌, ◌++◌, length, take, drop, get_or, Option, Some, None, Result, Ok, Err, refl, sym, ap, ◌∙◌, subst, arith}
+use Rattle.std.proofs.Common.{◌≡◌, ℕ, ◌+◌, ◌≤◌, ◌<◌, List, [], ◌∷◌, ◌++◌, length, take, drop, get_or, Option, Some, Result, Ok, Err, sym, ap, ◌∙◌, subst, arith}
 use Rattle.std.specs.Prelude.{slice_get}
 use Rattle.std.specs.List.{flat_map}
 use Rattle.std.proofs.lemmas.List.{take_more, take_all, take-append-drop, flat_map_more}
 use Rattle.std.proofs.lemmas.Option.{slice_get_within, get_or_from_slice_get}
 use Rattle.std.proofs.lemmas.List.Concat.{flat_map-append}
 use Rattle.cx_base.specs.declared.place.Place.{Place}
-use Rattle.cx_io.specs.Count.{Rose}
-use Rattle.cx_io.specs.Sink.{Appends, AppendsFront, PutAppends}
-use Rattle.cx_io.specs.Source.{HasCause}
+use Rattle.cx_io.specs.Sink.{Appends}
 use Rattle.cx_io.proofs.Pieces.{appends_nothing, appends_then, appends_front_of, appends_then_front}
 use Rattle.conceptc.specs.Puts.{PutsText}
 

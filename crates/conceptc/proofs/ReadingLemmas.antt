@@ -1,8 +1,7 @@
 -- One piece of the input after another.
-use Rattle.std.proofs.Common.{◌≡◌, ℕ, true, false, ◌≤◌, ◌<◌, List, [], ◌++◌, length, Option, Some, None, refl, sym, subst, arith}
+use Rattle.std.proofs.Common.{ℕ, true, false, ◌≤◌, List, [], ◌++◌, length, Option, sym, subst, arith}
 use Rattle.std.proofs.lemmas.List.{append-nil}
-use Rattle.cx_io.specs.Count.{Rose}
-use Rattle.cx_io.specs.Source.{Consumes, IsAtEnd}
+use Rattle.cx_io.specs.Source.{Consumes}
 use Rattle.cx_io.proofs.Pieces.{consumes_then}
 use Rattle.conceptc.specs.Verdict.{source_limit}
 use Rattle.conceptc.specs.Reading.{ReadsWhole, ReadsPiece, PieceIsUnread, IsUnread}

@@ -1,22 +1,24 @@
 -- The stages of the verdict, one behind the other.
-use Rattle.std.proofs.Common.{◌≡◌, ◌≤◌, ◌<◌, ◌⊎◌, inl, inr, ℕ, Bool, true, false, cond, ltb, List, [], ◌∷◌, ◌++◌, length, Result, Ok, Err, refl, sym, ap, ◌∙◌, subst, arith}
+use Rattle.std.proofs.Common.{◌≡◌, ◌≤◌, ◌<◌, ◌⊎◌, inl, inr, ℕ, Bool, true, false, cond, ltb, List, [], length, Result, Ok, Err, refl, sym, subst}
 use Rattle.std.proofs.lemmas.Bool.{lt-ltb, le-ltb}
 use Rattle.cx_base.specs.Refusal.{Refusal, Refused, Passed, ◌>>=◌}
 use Rattle.cx_base.specs.declared.fault.Fault.{Fault}
-use Rattle.cx_base.specs.declared.kind.Kind.TheVariants.{Syntax, Redeclared, UnknownName}
+use Rattle.cx_base.specs.declared.kind.Kind.{Kind}
+use Rattle.cx_base.specs.declared.kind.Kind.TheVariants as fault
 use Rattle.cx_base.specs.declared.limit.Limit.{Limit}
 use Rattle.cx_base.specs.declared.limit.Limit.TheVariants as limit
 use Rattle.cx_base.specs.declared.place.Place.{Place}
-use Rattle.cx_lexer.specs.Division.{IsDivided, IsDivision, EndsOnce, AreLexed}
-use Rattle.cx_lexer.specs.Tokens.{TokenTree, tokens, place_behind, start}
+use Rattle.cx_lexer.specs.Division.{AreTokens, EndsOnce, IsLexical}
+use Rattle.cx_lexer.specs.Reading.{lexed}
+use Rattle.cx_lexer.specs.Tokens.{TokenTree, fault_at}
 use Rattle.cx_tree.specs.UnitTree.{UnitTree}
-use Rattle.cx_parse_decl.specs.Grammar.{unit_at, syntax}
-use Rattle.cx_parse_decl.specs.Spelling.{Spells, EndIsBare, IsMisfit}
-use Rattle.cx_plain.specs.declared.tree.PlainUnit.{PlainUnit}
+use Rattle.cx_parse_decl.specs.Fault.{is_unsupported, misfit_fault, misfit}
+use Rattle.cx_parse_decl.specs.Grammar.{unit_at}
+use Rattle.cx_parse_decl.specs.Spelling.{Spells, IsMisfit}
 use Rattle.cx_engine.specs.Names.{names_unit}
 use Rattle.cx_engine.specs.Plain.{plain_unit, translated}
 use Rattle.conceptc.specs.Decision.{IsTextOf}
-use Rattle.conceptc.specs.Verdict.{source_limit, no_place, tree_of, judged, verdict}
+use Rattle.conceptc.specs.Verdict.{IsGrammatical, source_limit, no_place, tree_of, judged, verdict}
 
 -- a stage that refuses, or the stage behind it
 bind_err : {A B : Type 0} (m : Result A Refusal) (f : A → Result B Refusal) (r : Refusal) → (m >>= f) ≡ Err r → (m ≡ Err r) ⊎ ((x : A) × (m ≡ Ok x) × (f x ≡ Err r))
@@ -32,59 +34,176 @@ names_refused u r e = by (names_unit u) e
     by (Ok x) h = absurd cc
     by (Err d) h = cc
 
+-- ---- the kinds of fault of the stages
+
+abbrev IsNaming : Kind → Type 0
+IsNaming k = (k ≡ fault.Redeclared) ⊎ (k ≡ fault.UnknownName)
+
+no_name_is_lexical : (k : Kind) → IsNaming k → IsLexical k → ⊥
+no_name_is_lexical k (inl n) (inl h) = cc
+no_name_is_lexical k (inl n) (inr (inl h)) = cc
+no_name_is_lexical k (inl n) (inr (inr h)) = cc
+no_name_is_lexical k (inr n) (inl h) = cc
+no_name_is_lexical k (inr n) (inr (inl h)) = cc
+no_name_is_lexical k (inr n) (inr (inr h)) = cc
+
+no_name_is_grammatical : (k : Kind) → IsNaming k → IsGrammatical k → ⊥
+no_name_is_grammatical k (inl n) (inl h) = cc
+no_name_is_grammatical k (inl n) (inr h) = cc
+no_name_is_grammatical k (inr n) (inl h) = cc
+no_name_is_grammatical k (inr n) (inr h) = cc
+
+no_token_is_grammatical : (k : Kind) → IsLexical k → IsGrammatical k → ⊥
+no_token_is_grammatical k (inl n) (inl h) = cc
+no_token_is_grammatical k (inl n) (inr h) = cc
+no_token_is_grammatical k (inr (inl n)) (inl h) = cc
+no_token_is_grammatical k (inr (inl n)) (inr h) = cc
+no_token_is_grammatical k (inr (inr n)) (inl h) = cc
+no_token_is_grammatical k (inr (inr n)) (inr h) = cc
+
+same_fault : (f g : Fault) → Refused f ≡ Refused g → g ≡ f
+same_fault f g e = cc
+
+by_test : (b : Bool) → IsGrammatical (cond b fault.Unsupported fault.Syntax)
+by_test true = inr refl
+by_test false = inl refl
+
+misfit_kind : (t : TokenTree) → IsGrammatical (misfit_fault t).kind
+unfolding misfit_fault
+misfit_kind t = by_test (is_unsupported t.kind t.text)
+
+-- ---- what the laws of the layers below say
+
 pub record Laws : Type 0 where
-  pub exists : (bytes : List ℕ) → IsDivision bytes (tokens bytes)
-  pub only_division : (bytes : List ℕ) (ts : List TokenTree) → IsDivision bytes ts → ts ≡ tokens bytes
-  pub lexed : (bytes : List ℕ) → AreLexed (tokens bytes)
-  pub found : (ts : List TokenTree) (u : UnitTree) → AreLexed ts → unit_at ts ≡ Ok u → Spells ts u
-  pub only_spelling : (ts : List TokenTree) (u : UnitTree) → Spells ts u → unit_at ts ≡ Ok u
-  pub refused : (ts : List TokenTree) (r : Refusal) → unit_at ts ≡ Err r → (at : Place) × (r ≡ syntax at)
-  pub stops : (ts : List TokenTree) (at : Place) → AreLexed ts → EndIsBare ts → unit_at ts ≡ Err (syntax at) → IsMisfit ts at
-  pub kinds : (u : UnitTree) (r : Refusal) → names_unit u ≡ Err r → (f : Fault) × (r ≡ Refused f) × ((f.kind ≡ Redeclared) ⊎ (f.kind ≡ UnknownName))
+  pub read : (bytes : List ℕ) → AreTokens bytes (lexed bytes)
+  pub only_read : (bytes : List ℕ) (r : Result (List TokenTree) Refusal) → AreTokens bytes r → r ≡ lexed bytes
+  pub ended : (bytes : List ℕ) (ts : List TokenTree) → AreTokens bytes (Ok ts) → EndsOnce ts
+  pub faults : (bytes : List ℕ) (f : Refusal) → AreTokens bytes (Err f) → (k : Kind) × (at : Place) × IsLexical k × (f ≡ fault_at k at)
+  pub found : (ts : List TokenTree) (u : UnitTree) → EndsOnce ts → unit_at ts ≡ Ok u → Spells ts u
+  pub only : (ts : List TokenTree) (u : UnitTree) → Spells ts u → unit_at ts ≡ Ok u
+  pub refused : (ts : List TokenTree) (r : Refusal) → unit_at ts ≡ Err r → (t : TokenTree) × (r ≡ misfit t)
+  pub stops : (ts : List TokenTree) (r : Refusal) → EndsOnce ts → unit_at ts ≡ Err r → IsMisfit ts r
+  pub kinds : (u : UnitTree) (r : Refusal) → names_unit u ≡ Err r → (f : Fault) × (r ≡ Refused f) × ((f.kind ≡ fault.Redeclared) ⊎ (f.kind ≡ fault.UnknownName))
+
+-- what the reader finds is what the bytes are read as
+pub are_tokens : ((bytes : List ℕ) → AreTokens bytes (lexed bytes)) → (bytes : List ℕ) (r : Result (List TokenTree) Refusal) → lexed bytes ≡ r → AreTokens bytes r
+are_tokens read bytes r e = subst (λ (x : Result (List TokenTree) Refusal). AreTokens bytes x) e (read bytes)
+
+-- what is no tokens has a fault of tokens
+are_refused : Laws → (bytes : List ℕ) (r : Refusal) → AreTokens bytes (Err r) → (f : Fault) × (r ≡ Refused f) × IsLexical f.kind
+are_refused laws bytes r are =
+    let h = laws.faults bytes r are in
+    (record { kind = h.0; at = h.1; also = []; chain = [] }, h.3, h.2)
+
+grammar_kind : Laws → (ts : List TokenTree) (f : Fault) → unit_at ts ≡ Err (Refused f) → IsGrammatical f.kind
+grammar_kind laws ts f e =
+    let m = laws.refused ts (Refused f) e in
+    subst (λ (g : Fault). IsGrammatical g.kind) (same_fault f (misfit_fault m.0) m.1) (misfit_kind m.0)
+
+name_kind : Laws → (u : UnitTree) (f : Fault) → translated u ≡ Err (Refused f) → IsNaming f.kind
+name_kind laws u f e =
+    let k = laws.kinds u (Refused f) (names_refused u (Refused f) e) in
+    subst (λ (g : Fault). IsNaming g.kind) (same_fault f k.0 k.1) k.2
+
+token_kind : Laws → (bytes : List ℕ) (f : Fault) → lexed bytes ≡ Err (Refused f) → IsLexical f.kind
+token_kind laws bytes f e =
+    let k = are_refused laws bytes (Refused f) (are_tokens laws.read bytes (Err (Refused f)) e) in
+    subst (λ (g : Fault). IsLexical g.kind) (same_fault f k.0 k.1) k.2
+
+-- ---- the tree of the bytes
+
+tree_found : (m : Result (List TokenTree) Refusal) (u : UnitTree) → (m >>= unit_at) ≡ Ok u → (ts : List TokenTree) × (m ≡ Ok ts) × (unit_at ts ≡ Ok u)
+tree_found (Ok ts) u e = (ts, refl, e)
+tree_found (Err r) u e = absurd cc
 
 pub is_spelled : Laws → (bytes : List ℕ) (u : UnitTree) → tree_of bytes ≡ Ok u → IsTextOf bytes u
 unfolding tree_of
-is_spelled laws bytes u e = (tokens bytes, laws.exists bytes, laws.found (tokens bytes) u (laws.lexed bytes) e)
+is_spelled laws bytes u e =
+    let read = tree_found (lexed bytes) u e in
+    let are : AreTokens bytes (Ok read.0) = are_tokens laws.read bytes (Ok read.0) read.1 in
+    (read.0, are, laws.found read.0 u (laws.ended bytes read.0 are) read.2)
 
 pub is_read : Laws → (bytes : List ℕ) (u : UnitTree) → IsTextOf bytes u → tree_of bytes ≡ Ok u
 unfolding tree_of
-is_read laws bytes u text = subst (λ (ts : List TokenTree). unit_at ts ≡ Ok u) (laws.only_division bytes text.0 text.1) (laws.only_spelling text.0 u text.2)
+is_read laws bytes u text = rw (← laws.only_read bytes (Ok text.0) text.1) (laws.only text.0 u text.2)
 
-pub is_syntax : Laws → (bytes : List ℕ) (r : Refusal) → tree_of bytes ≡ Err r → (at : Place) × (r ≡ syntax at)
+-- ---- the stage that refuses
+
+abbrev StageOf : List ℕ → Refusal → Type 0
+StageOf bytes r =
+    (lexed bytes ≡ Err r) ⊎ ((ts : List TokenTree) × (lexed bytes ≡ Ok ts) × (unit_at ts ≡ Err r)) ⊎ ((u : UnitTree) × (translated u ≡ Err r))
+
+stage_of : (bytes : List ℕ) (r : Refusal) → judged bytes ≡ Err r → StageOf bytes r
+unfolding judged tree_of
+stage_of bytes r e =
+    elim (bind_err (tree_of bytes) translated r e) [
+      | inl h ↦ elim (bind_err (lexed bytes) unit_at r h) [ inl l ↦ inl l | inr g ↦ inr (inl g) ]
+      | inr n ↦ inr (inr (n.0, n.2))
+    ]
+
+judged_lexed : (bytes : List ℕ) (r : Refusal) → lexed bytes ≡ Err r → judged bytes ≡ Err r
+unfolding judged tree_of
+judged_lexed bytes r e = rw e refl
+
+pub lexical : Laws → (bytes : List ℕ) (r : Refusal) → AreTokens bytes (Err r) → (judged bytes ≡ Err r) × (f : Fault) × (r ≡ Refused f) × IsLexical f.kind
+lexical laws bytes r are =
+    let f = are_refused laws bytes r are in
+    (judged_lexed bytes r (sym (laws.only_read bytes (Err r) are)), f.0, f.1, f.2)
+
+pub lexical_only : Laws → (bytes : List ℕ) (f : Fault) → judged bytes ≡ Err (Refused f) → IsLexical f.kind → AreTokens bytes (Err (Refused f))
+lexical_only laws bytes f e is =
+    elim (stage_of bytes (Refused f) e) [
+      | inl l ↦ are_tokens laws.read bytes (Err (Refused f)) l
+      | inr s ↦ elim s [
+        | inl g ↦ absurd (no_token_is_grammatical f.kind is (grammar_kind laws g.0 f g.2))
+        | inr n ↦ absurd (no_name_is_lexical f.kind (name_kind laws n.0 f n.1) is)
+      ]
+    ]
+
+judged_tree : (bytes : List ℕ) (r : Refusal) → tree_of bytes ≡ Err r → judged bytes ≡ Err r
+unfolding judged
+judged_tree bytes r e = rw e refl
+
+tree_refused : (bytes : List ℕ) (ts : List TokenTree) (r : Refusal) → lexed bytes ≡ Ok ts → tree_of bytes ≡ Err r → unit_at ts ≡ Err r
 unfolding tree_of
-is_syntax laws bytes r e = laws.refused (tokens bytes) r e
+tree_refused bytes ts r read e = rw read at e
 
--- the end of a division has no text
-bare : (at : Place) (bytes : List ℕ) (ts : List TokenTree) → IsDivided at bytes ts → EndsOnce ts → EndIsBare ts
-bare at bytes [] divided once = tt
-bare at bytes (t ∷ []) divided once = ((λ _. ap (λ (u : TokenTree). u.text) divided.1), tt)
-bare at bytes (t ∷ u ∷ ts) divided once =
-    ((λ is. absurd (once.0 is)), bare (place_behind at (divided.0 ++ divided.1)) divided.2 (u ∷ ts) divided.8 once.1)
+pub is_syntax : Laws → (bytes : List ℕ) (ts : List TokenTree) (r : Refusal) → AreTokens bytes (Ok ts) → tree_of bytes ≡ Err r → (judged bytes ≡ Err r) × (f : Fault) × (r ≡ Refused f) × IsGrammatical f.kind
+is_syntax laws bytes ts r are e =
+    let m = laws.refused ts r (tree_refused bytes ts r (sym (laws.only_read bytes (Ok ts) are)) e) in
+    (judged_tree bytes r e, misfit_fault m.0, m.1, misfit_kind m.0)
 
-pub is_misfit : Laws → (bytes : List ℕ) (at : Place) → tree_of bytes ≡ Err (syntax at) → IsMisfit (tokens bytes) at
-unfolding tree_of
-is_misfit laws bytes at e = laws.stops (tokens bytes) at (laws.lexed bytes) (bare start bytes (tokens bytes) (laws.exists bytes) (laws.lexed bytes).ended) e
+pub is_misfit : Laws → (bytes : List ℕ) (f : Fault) → judged bytes ≡ Err (Refused f) → IsGrammatical f.kind → (ts : List TokenTree) × AreTokens bytes (Ok ts) × IsMisfit ts (Refused f)
+is_misfit laws bytes f e is =
+    elim (stage_of bytes (Refused f) e) [
+      | inl l ↦ absurd (no_token_is_grammatical f.kind (token_kind laws bytes f l) is)
+      | inr s ↦ elim s [
+        | inl g ↦
+            let are : AreTokens bytes (Ok g.0) = are_tokens laws.read bytes (Ok g.0) g.1 in
+            (g.0, are, laws.stops g.0 (Refused f) (laws.ended bytes g.0 are) g.2)
+        | inr n ↦ absurd (no_name_is_grammatical f.kind (name_kind laws n.0 f n.1) is)
+      ]
+    ]
 
-pub spells_none : Laws → (bytes : List ℕ) (r : Refusal) → tree_of bytes ≡ Err r → (u : UnitTree) → IsTextOf bytes u → ⊥
-spells_none laws bytes r e u text =
-    let read = is_read laws bytes u text in
-    cc
-
-pub no_unit : Laws → (bytes : List ℕ) (f : Fault) → judged bytes ≡ Err (Refused f) → f.kind ≡ Syntax → (u : UnitTree) → IsTextOf bytes u → ⊥
+pub no_unit : Laws → (bytes : List ℕ) (f : Fault) → judged bytes ≡ Err (Refused f) → IsLexical f.kind ⊎ IsGrammatical f.kind → (u : UnitTree) → IsTextOf bytes u → ⊥
 unfolding judged
 no_unit laws bytes f e is u text =
     let read : tree_of bytes ≡ Ok u = is_read laws bytes u text in
     let named : translated u ≡ Err (Refused f) = subst (λ (m : Result UnitTree Refusal). (m >>= translated) ≡ Err (Refused f)) read e in
-    let k = laws.kinds u (Refused f) (names_refused u (Refused f) named) in
-    let same : f ≡ k.0 = cc in
-    elim k.2 [ inl h ↦ cc (ap (λ (g : Fault). g.kind) same) | inr h ↦ cc (ap (λ (g : Fault). g.kind) same) ]
+    let kind = name_kind laws u f named in
+    elim is [ inl h ↦ no_name_is_lexical f.kind kind h | inr h ↦ no_name_is_grammatical f.kind kind h ]
+
+no_fault : (l : Limit) (at : Place) (f : Fault) → Passed l at ≡ Refused f → ⊥
+no_fault l at f e = cc
 
 pub no_limit : Laws → (bytes : List ℕ) (l : Limit) (at : Place) → judged bytes ≡ Err (Passed l at) → ⊥
-unfolding judged
 no_limit laws bytes l at e =
-    elim (bind_err (tree_of bytes) translated (Passed l at) e) [
-      | inl h ↦ let s = is_syntax laws bytes (Passed l at) h in let apart : Passed l at ≡ syntax s.0 = s.1 in cc
-      | inr h ↦ let k = laws.kinds h.0 (Passed l at) (names_refused h.0 (Passed l at) h.2) in let apart : Passed l at ≡ Refused k.0 = k.1 in cc
+    elim (stage_of bytes (Passed l at) e) [
+      | inl h ↦ let k = are_refused laws bytes (Passed l at) (are_tokens laws.read bytes (Err (Passed l at)) h) in no_fault l at k.0 k.1
+      | inr s ↦ elim s [
+        | inl g ↦ let m = laws.refused g.0 (Passed l at) g.2 in no_fault l at (misfit_fault m.0) m.1
+        | inr n ↦ let k = laws.kinds n.0 (Passed l at) (names_refused n.0 (Passed l at) n.1) in no_fault l at k.0 k.1
+      ]
     ]
 
 -- ---- the limit on the bytes

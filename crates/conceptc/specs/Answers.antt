@@ -1,7 +1,7 @@
 -- What each answer of the top call says, and where it comes. In each: the command; what the input had left before and
 -- after the call; what out took before and after it, and diag.
 use Rattle.std.specs.Prelude.{◌≡◌, ◌⊎◌, ℕ, List, ◌++◌, Option, None, Some, Ok, Err}
-use Rattle.cx_base.specs.Refusal.{Refused, Passed}
+use Rattle.cx_base.specs.Refusal.{Refused}
 use Rattle.cx_base.specs.declared.fault.Fault.{Fault}
 use Rattle.cx_base.specs.declared.limit.Limit.TheVariants as limit
 use Rattle.cx_io.specs.Count.{Rose}

@@ -1,12 +1,11 @@
 -- What a call decides, what it has to say, and how it ends.
-use Rattle.std.specs.Prelude.{◌≡◌, ◌⊎◌, ℕ, ◌≤◌, ◌<◌, List, [], ◌∷◌, ◌++◌, codes, length, Option, Some, None, Result, Ok, Err}
-use Rattle.cx_base.specs.Refusal.{Refusal, Refused, Passed}
+use Rattle.std.specs.Prelude.{◌≡◌, ◌⊎◌, ℕ, List, [], ◌++◌, codes, Option, Some, None, Ok, Err}
+use Rattle.cx_base.specs.Refusal.{Refused, Passed}
 use Rattle.cx_base.specs.declared.limit.Limit.TheVariants as limit
 use Rattle.cx_io.specs.Count.{Rose}
 use Rattle.cx_io.specs.Sink.{Appends, AppendsFront}
-use Rattle.cx_io.specs.Source.{Consumes}
+use Rattle.cx_lexer.specs.Division.{AreTokens}
 use Rattle.cx_lexer.specs.Tokens.{TokenTree}
-use Rattle.cx_lexer.specs.Division.{IsDivision}
 use Rattle.cx_tree.specs.UnitTree.{UnitTree}
 use Rattle.cx_parse_decl.specs.Spelling.{Spells}
 use Rattle.cx_plain.specs.declared.tree.PlainUnit.{PlainUnit}
@@ -24,7 +23,7 @@ use Rattle.conceptc.specs.Verdict.{no_place, tree_of, verdict}
 
 -- The bytes are divided into tokens that spell the unit.
 abbrev pub IsTextOf : List ℕ → UnitTree → Type 0
-IsTextOf bytes unit = (ts : List TokenTree) × IsDivision bytes ts × Spells ts unit
+IsTextOf bytes unit = (ts : List TokenTree) × AreTokens bytes (Ok ts) × Spells ts unit
 
 -- The bytes spell a unit, whose plain unit is the verdict and does what the unit does; the text is that of the
 -- plain unit.

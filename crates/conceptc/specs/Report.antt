@@ -1,5 +1,5 @@
 -- The reports on diag, one item a line.
-use Rattle.std.specs.Prelude.{ℕ, List, [], ◌∷◌, ◌++◌, codes, decimal}
+use Rattle.std.specs.Prelude.{ℕ, List, ◌++◌, codes, decimal}
 use Rattle.std.specs.List.{flat_map}
 use Rattle.cx_base.specs.Names.{kind_name, limit_name}
 use Rattle.cx_base.specs.declared.fault.Fault.{Fault}

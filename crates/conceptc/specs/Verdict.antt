@@ -1,11 +1,14 @@
 -- What a unit's bytes are: the first stop of the stages, else their plain unit.
 --
--- The stages are, in this order: the limit on the bytes; the tokens and the grammar; the names; the plain unit.
-use Rattle.std.specs.Prelude.{ℕ, List, length, nat_lt, Result, Ok, Err, if◌then◌else◌}
+-- The stages are, in this order: the limit on the bytes; BadByte; the other faults of tokens, by place; the grammar; the
+-- names; the plain unit.
+use Rattle.std.specs.Prelude.{◌≡◌, ◌⊎◌, ℕ, List, length, nat_lt, Result, Err, if◌then◌else◌}
 use Rattle.cx_base.specs.Refusal.{Refusal, Passed, ◌>>=◌}
+use Rattle.cx_base.specs.declared.kind.Kind.{Kind}
+use Rattle.cx_base.specs.declared.kind.Kind.TheVariants as fault
 use Rattle.cx_base.specs.declared.limit.Limit.TheVariants as limit
 use Rattle.cx_base.specs.declared.place.Place.{Place}
-use Rattle.cx_lexer.specs.Tokens.{tokens}
+use Rattle.cx_lexer.specs.Reading.{lexed}
 use Rattle.cx_parse_decl.specs.Grammar.{unit_at}
 use Rattle.cx_tree.specs.UnitTree.{UnitTree}
 use Rattle.cx_plain.specs.declared.tree.PlainUnit.{PlainUnit}
@@ -19,9 +22,15 @@ source_limit = 4194304
 abbrev pub no_place : Place
 no_place = record { line = 0; col = 0 }
 
--- The tree of the bytes: tokens, then the grammar.
+-- The kinds of fault of the grammar.
+abbrev pub IsGrammatical : Kind → Type 0
+IsGrammatical k = (k ≡ fault.Syntax) ⊎ (k ≡ fault.Unsupported)
+
+-- The tree of the bytes: all tokens, then the grammar.
 unfoldable pub tree_of : List ℕ → Result UnitTree Refusal
-tree_of bytes = unit_at (tokens bytes)
+tree_of bytes = do
+  ts ← lexed bytes
+  unit_at ts
 
 -- The stages behind the limit on the bytes.
 unfoldable pub judged : List ℕ → Result PlainUnit Refusal

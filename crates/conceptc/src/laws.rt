@@ -1,17 +1,16 @@
 //! What the stages of the verdict refuse, over the definitions alone.
 
-ghost use Rattle.std.specs.Prelude.{◌≡◌, ◌≤◌, ℕ, List, length, Ok, Err};
+ghost use Rattle.std.specs.Prelude.{◌≡◌, ◌⊎◌, ◌≤◌, ℕ, List, length, Ok, Err};
 ghost use Rattle.cx_base.specs.Refusal.{Refusal, Refused, Passed};
 ghost use Rattle.cx_base.specs.declared.fault.Fault.{Fault};
-ghost use Rattle.cx_base.specs.declared.kind.Kind.TheVariants.{Syntax};
 ghost use Rattle.cx_base.specs.declared.limit.Limit.{Limit};
 ghost use Rattle.cx_base.specs.declared.place.Place.{Place};
 ghost use Rattle.cx_tree.specs.UnitTree.{UnitTree};
-ghost use Rattle.cx_lexer.specs.Tokens.{tokens};
-ghost use Rattle.cx_parse_decl.specs.Grammar.{syntax};
+ghost use Rattle.cx_lexer.specs.Division.{AreTokens, IsLexical};
+ghost use Rattle.cx_lexer.specs.Tokens.{TokenTree};
 ghost use Rattle.cx_parse_decl.specs.Spelling.{IsMisfit};
 ghost use Rattle.conceptc.specs.Decision.{IsTextOf};
-ghost use Rattle.conceptc.specs.Verdict.{tree_of, judged};
+ghost use Rattle.conceptc.specs.Verdict.{IsGrammatical, tree_of, judged};
 
 use cx_engine::names_of_a_unit;
 use cx_lexer::one_division;
@@ -23,14 +22,17 @@ pub fn stages()
     ensures spelled { (bytes : List ℕ) (unit : UnitTree) → tree_of bytes ≡ Ok unit → IsTextOf bytes unit }
     ensures only { (bytes : List ℕ) (unit : UnitTree) → IsTextOf bytes unit → tree_of bytes ≡ Ok unit }
 
-    // Bytes that are not read spell no unit, and their fault is one of the grammar.
-    ensures syntax { (bytes : List ℕ) (r : Refusal) → tree_of bytes ≡ Err r → ((at : Place) × (r ≡ syntax at)) × ((unit : UnitTree) → IsTextOf bytes unit → ⊥) }
+    // A fault of the tokens, wherever it stands, comes before every fault of the stages behind, and is one of theirs alone.
+    ensures lexical { (bytes : List ℕ) (r : Refusal) → AreTokens bytes (Err r) → (judged bytes ≡ Err r) × (f : Fault) × (r ≡ Refused f) × IsLexical f.kind }
+    ensures lexical_only { (bytes : List ℕ) (f : Fault) → judged bytes ≡ Err (Refused f) → IsLexical f.kind → AreTokens bytes (Err (Refused f)) }
 
-    // That fault stands at the first token that does not fit: the tokens before it begin a unit, and with it they begin none.
-    ensures misfit { (bytes : List ℕ) (at : Place) → tree_of bytes ≡ Err (syntax at) → IsMisfit (tokens bytes) at }
+    // Bytes that are tokens throughout and no unit have a fault of the grammar. It is that of the first token that does
+    // not fit: the tokens before it begin a unit, and with it they begin none.
+    ensures syntax { (bytes : List ℕ) (ts : List TokenTree) (r : Refusal) → AreTokens bytes (Ok ts) → tree_of bytes ≡ Err r → (judged bytes ≡ Err r) × (f : Fault) × (r ≡ Refused f) × IsGrammatical f.kind }
+    ensures misfit { (bytes : List ℕ) (f : Fault) → judged bytes ≡ Err (Refused f) → IsGrammatical f.kind → (ts : List TokenTree) × AreTokens bytes (Ok ts) × IsMisfit ts (Refused f) }
 
-    // A fault of the grammar stands only where the bytes spell no unit.
-    ensures no_unit { (bytes : List ℕ) (f : Fault) → judged bytes ≡ Err (Refused f) → f.kind ≡ Syntax → (unit : UnitTree) → IsTextOf bytes unit → ⊥ }
+    // Such a fault, of the tokens or of the grammar, stands only where the bytes spell no unit.
+    ensures no_unit { (bytes : List ℕ) (f : Fault) → judged bytes ≡ Err (Refused f) → IsLexical f.kind ⊎ IsGrammatical f.kind → (unit : UnitTree) → IsTextOf bytes unit → ⊥ }
 
     // The stages behind the limit on the bytes pass no limit.
     ensures limits { (bytes : List ℕ) (l : Limit) (at : Place) → judged bytes ≡ Err (Passed l at) → ⊥ }

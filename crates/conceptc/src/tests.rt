@@ -42,14 +42,18 @@ fn expect_between(
     Ok(())
 }
 
-/// Translates a text that comes in pieces of one byte, and then in one piece, and compares the answers.
-fn expect(rt: &impl Abort, alloc: Global, text: &str, wanted: Answer) -> Result<(), Fail> {
+/// Translates bytes that come one by one, and then in one piece, and compares the answers.
+fn expect_of(rt: &impl Abort, alloc: Global, bytes: &[u8], wanted: Answer) -> Result<(), Fail> {
     for step in [1, 65536] {
-        let bytes = text.as_bytes().to_vec(alloc)?;
-        let mut input = MemSource::new(bytes, step, Vec::new(alloc));
+        let mut input = MemSource::new(bytes.to_vec(alloc)?, step, Vec::new(alloc));
         expect_between(rt, alloc, &TRANSLATE, &mut input, (&[], &[]), wanted)?;
     }
     Ok(())
+}
+
+/// The same of a text.
+fn expect(rt: &impl Abort, alloc: Global, text: &str, wanted: Answer) -> Result<(), Fail> {
+    expect_of(rt, alloc, text.as_bytes(), wanted)
 }
 
 #[test]
@@ -73,6 +77,24 @@ fn units_are_translated(rt: HostRuntime) -> Result<(), Fail> {
             "int a(){return 0;}int b(){return 10;}int c(){return a();}",
             "// plain 1\nint p0_a();\nint p1_b();\nint p2_c();\nint p0_a() {\n  return 0;\n}\nint p1_b() {\n  return 10;\n}\nint p2_c() {\n  return p0_a();\n}\n//= witness 1\n",
         ),
+        (
+            "int \u{e9}() { return 1; }",
+            "// plain 1\nint p0_\u{e9}();\nint p0_\u{e9}() {\n  return 1;\n}\n//= witness 1\n",
+        ),
+        // comments, line markers and other spellings of a number
+        (
+            "int f() { return 0x7fffffff; } // c",
+            "// plain 1\nint p0_f();\nint p0_f() {\n  return 2147483647;\n}\n//= witness 1\n",
+        ),
+        (
+            "# 0 \"demo.cpp\"\n#pragma once\n#line 3 \"demo.cpp\"\nint f() { return 0X1f; }\n",
+            "// plain 1\nint p0_f();\nint p0_f() {\n  return 31;\n}\n//= witness 1\n",
+        ),
+        (
+            "/* int g()\n * { */int f/**/(){return// 7\n0x00;}",
+            "// plain 1\nint p0_f();\nint p0_f() {\n  return 0;\n}\n//= witness 1\n",
+        ),
+        ("// int f() {", EMPTY),
     ];
     for (text, out) in cases {
         expect(&rt, rt.alloc(), text, (Status::Done, out, ""))?;
@@ -99,12 +121,26 @@ fn faults_have_their_kinds_and_places(rt: HostRuntime) -> Result<(), Fail> {
         ("int and() { return 1; }", "fault Syntax 1:5\n"),
         ("int int() { return 1; }", "fault Syntax 1:5\n"),
         ("int f() { return xor_eq(); }", "fault Syntax 1:18\n"),
-        // bytes that begin no token
-        ("int f() { return @1; }", "fault Syntax 1:18\n"),
-        ("int f() { return 01; }", "fault Syntax 1:18\n"),
+        // literals of another type
+        ("int f() { return 1u; }", "fault Syntax 1:18\n"),
         ("int f() { return 7u; }", "fault Syntax 1:18\n"),
+        ("int f() { return 1ll; }", "fault Syntax 1:18\n"),
         ("int f() { return 2147483648; }", "fault Syntax 1:18\n"),
-        ("int \u{e9}() { return 1; }", "fault Syntax 1:5\n"),
+        ("int f() { return 0x80000000; }", "fault Syntax 1:18\n"),
+        ("int f() { return \"1\"; }", "fault Syntax 1:18\n"),
+        // tokens that are never used
+        ("int f() { goto x; }", "fault Unsupported 1:11\n"),
+        ("int double() { return 1; }", "fault Unsupported 1:5\n"),
+        ("int f() { return f[0]; }", "fault Unsupported 1:19\n"),
+        ("int f(...) { return 1; }", "fault Unsupported 1:7\n"),
+        ("int f() { return f <=> f; }", "fault Unsupported 1:20\n"),
+        // what is skipped takes its place
+        ("/* a */ int f() { return }", "fault Syntax 1:26\n"),
+        (
+            "# 0 \"demo.cpp\"\nint f() { return }",
+            "fault Syntax 2:18\n",
+        ),
+        ("int \u{e9}() { return }", "fault Syntax 1:19\n"),
         // names, the first fault in the order of the unit
         ("int f() { return x(); }", "fault UnknownName 1:18\n"),
         (
@@ -135,6 +171,49 @@ fn faults_have_their_kinds_and_places(rt: HostRuntime) -> Result<(), Fail> {
     ];
     for (text, diag) in cases {
         expect(&rt, rt.alloc(), text, (Status::IllFormed, "", diag))?;
+    }
+    Ok(())
+}
+
+#[test]
+fn faults_of_tokens_come_first(rt: HostRuntime) -> Result<(), Fail> {
+    let cases: [(&[u8], &str); 24] = [
+        // numbers
+        (
+            b"int f() { return 9223372036854775808; }",
+            "fault LiteralTooBig 1:18\n",
+        ),
+        (b"int f() { return 007; }", "fault BadToken 1:18\n"),
+        (b"int f() { return 01; }", "fault BadToken 1:18\n"),
+        (b"int f() { return 0b1; }", "fault BadToken 1:18\n"),
+        (b"int f() { return 1'000; }", "fault BadToken 1:18\n"),
+        (b"int f() { return 1.5; }", "fault BadToken 1:18\n"),
+        (b"int f() { return 1uu; }", "fault BadToken 1:18\n"),
+        (b"int f() { return 0x; }", "fault BadToken 1:18\n"),
+        // characters that begin nothing
+        (b"int f() { return @; }", "fault BadToken 1:18\n"),
+        (b"int f() { return @1; }", "fault BadToken 1:18\n"),
+        (b"int a#b() { return 1; }", "fault BadToken 1:6\n"),
+        // what is open
+        (b"int f() { return 1; } /* c", "fault BadToken 1:23\n"),
+        (b"int f() { return \"1; }", "fault BadToken 1:18\n"),
+        // bytes that are no text, before every other fault
+        (b"int f\xff", "fault BadByte 1:6\n"),
+        (b"int \xc3\xa9\xff", "fault BadByte 1:7\n"),
+        (b"int\n\xc3", "fault BadByte 2:1\n"),
+        (b"// \xff", "fault BadByte 1:4\n"),
+        (b"@ \xff", "fault BadByte 1:3\n"),
+        (b"int f( { return 1; } \xff", "fault BadByte 1:22\n"),
+        // the first by place of the others
+        (b"007 9223372036854775808", "fault BadToken 1:1\n"),
+        (b"9223372036854775808 007", "fault LiteralTooBig 1:1\n"),
+        // a token that does not fit, and a name that is not declared, before them
+        (b"int f( { return @; }", "fault BadToken 1:17\n"),
+        (b"goto 9223372036854775808", "fault LiteralTooBig 1:6\n"),
+        (b"int f() { return x(); } @", "fault BadToken 1:25\n"),
+    ];
+    for (bytes, diag) in cases {
+        expect_of(&rt, rt.alloc(), bytes, (Status::IllFormed, "", diag))?;
     }
     Ok(())
 }

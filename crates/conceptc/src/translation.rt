@@ -8,7 +8,7 @@ ghost use Rattle.conceptc.specs.Verdict.{source_limit, verdict};
 use crate::decision::Decision;
 use cx_base::{List, Stop};
 use cx_engine::translate_unit;
-use cx_lexer::lex;
+use cx_lexer::{lex, one_division};
 use cx_parse_decl::parse_unit;
 use cx_plain::print;
 use std::alloc::Global;
@@ -19,6 +19,7 @@ fn translate(alloc: Global, source: &[u8]) -> Result<Vec<u8>, Stop>
     requires within { length source.now ≤ source_limit }
     ensures { MatchResult result (λ text. IsTranslated source.now text.items) (λ stop. Stops stop (verdict source.now)) }
 {
+    one_division();
     let tokens = lex(alloc, source)?;
     let unit = parse_unit(alloc, &tokens)?;
     let translation = translate_unit(alloc, &unit)?;

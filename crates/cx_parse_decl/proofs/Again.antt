@@ -6,11 +6,12 @@ use Rattle.cx_base.specs.declared.place.Place.{Place}
 use Rattle.cx_base.specs.Refusal.{Refusal}
 use Rattle.cx_lexer.specs.declared.token.TokenKind.{TokenKind}
 use Rattle.cx_lexer.specs.declared.token.TokenKind.TheVariants as kind
-use Rattle.cx_lexer.specs.Tokens.{TokenTree, is_end, number_of}
+use Rattle.cx_lexer.specs.Reading.{is_end}
+use Rattle.cx_lexer.specs.Tokens.{TokenTree}
 use Rattle.cx_tree.specs.UnitTree.{Mark, ExprTree, LiteralTree, CallTree, FunctionTree, UnitTree, expr_nodes, function_nodes, unit_nodes, IsNumberedFrom}
 use Rattle.cx_parse_decl.specs.Grammar.{first_at, call_at, value_at, function_at, functions_at, unit_at}
 use Rattle.cx_parse_decl.specs.Spelling.{Wanted, punct, AreWanted, value_spelling, function_spelling, unit_spelling, IsValue, HasValue, Spells}
-use Rattle.cx_parse_decl.proofs.Lexed.{number_again}
+use Rattle.cx_parse_decl.proofs.Ints.{int_again}
 use Rattle.cx_parse_decl.proofs.Steps.{token_again, name_again}
 use Rattle.cx_parse_decl.proofs.Wanted.{AreWantedThen, then_split, then_length, wanted_split, numbered_split}
 
@@ -31,9 +32,8 @@ value_again : (v : ExprTree) (n : ℕ) (ts rest : List TokenTree) → AreWantedT
 unfolding value_at first_at call_at
 value_again (LiteralTree mark value) n ts rest h is numbered =
     let t = h.0 in
-    let number : number_of t.text ≡ value = ap number_of h.3.text ∙ number_again value is in
-    let same : LiteralTree (mark_of n t.at) (number_of t.text) ≡ LiteralTree mark value = rw (same_mark mark n t.at numbered.0 h.3.at, number) refl in
-    rw (h.2, h.3.kind, h.4) (same_read _ _ (n + 1) (n + 1) rest same refl)
+    let same : LiteralTree (mark_of n t.at) value ≡ LiteralTree mark value = rw (same_mark mark n t.at numbered.0 h.3.at) refl in
+    rw (h.2, h.3.kind, int_again t.text value h.3.text, h.4) (same_read _ _ (n + 1) (n + 1) rest same refl)
 value_again (CallTree mark callee name) n ts rest h is numbered =
     let t = h.0 in
     let o = h.4 in
@@ -41,7 +41,7 @@ value_again (CallTree mark callee name) n ts rest h is numbered =
     let same_callee = same_mark callee n t.at numbered.0 h.3.at in
     let same_call = same_mark mark (n + 1) t.at numbered.1.0 (h.3.at ∙ sym is) in
     let same : CallTree (mark_of (n + 1) t.at) (mark_of n t.at) t.text ≡ CallTree mark callee name = rw (same_call, same_callee, h.3.text) refl in
-    rw (h.2, h.3.kind, token_again (codes "(") h.1 o.0 o.1 o.2 o.3.text, token_again (codes ")") o.1 c.0 c.1 c.2 c.3.text, c.4) (same_read _ _ (n + 2) (n + 2) rest same refl)
+    rw (h.2, h.3.kind, token_again kind.Punct (codes "(") h.1 o.0 o.1 o.2 o.3.kind o.3.text, token_again kind.Punct (codes ")") o.1 c.0 c.1 c.2 c.3.kind c.3.text, c.4) (same_read _ _ (n + 2) (n + 2) rest same refl)
 
 abbrev built : Mark → Mark → List ℕ → Mark → Mark → ExprTree → FunctionTree
 built mark type name body statement value = record { mark = mark; type = type; name = name; body = body; statement = statement; value = value }
@@ -72,15 +72,15 @@ function_again f n ts rest a is numbered =
     let same = same_function f (mark_of (k + 2) b.0.at) (mark_of n a.0.at) b.0.text (mark_of (k + 1) g.0.at) (mark_of k s.0.at) mark type b.3.text body statement in
     let next : k + 3 ≡ n + length (function_nodes f) = omega (arith, length-append (expr_nodes f.value) (f.statement ∷ f.body ∷ f.mark ∷ [])) in
     rw (
-      token_again (codes "int") ts a.0 a.1 a.2 a.3.text,
+      token_again kind.Word (codes "int") ts a.0 a.1 a.2 a.3.kind a.3.text,
       name_again a.1 b.0 b.1 b.2 b.3.kind,
-      token_again (codes "(") b.1 c.0 c.1 c.2 c.3.text,
-      token_again (codes ")") c.1 d.0 d.1 d.2 d.3.text,
-      token_again (codes "{") d.1 g.0 g.1 g.2 g.3.text,
-      token_again (codes "return") g.1 s.0 s.1 s.2 s.3.text,
+      token_again kind.Punct (codes "(") b.1 c.0 c.1 c.2 c.3.kind c.3.text,
+      token_again kind.Punct (codes ")") c.1 d.0 d.1 d.2 d.3.kind d.3.text,
+      token_again kind.Punct (codes "{") d.1 g.0 g.1 g.2 g.3.kind g.3.text,
+      token_again kind.Word (codes "return") g.1 s.0 s.1 s.2 s.3.kind s.3.text,
       value,
-      token_again (codes ";") tail.0 h.0 h.1 h.2 h.3.text,
-      token_again (codes "}") h.1 i.0 i.1 i.2 i.3.text,
+      token_again kind.Punct (codes ";") tail.0 h.0 h.1 h.2 h.3.kind h.3.text,
+      token_again kind.Punct (codes "}") h.1 i.0 i.1 i.2 i.3.kind i.3.text,
       i.4,
     )
     (same_read _ _ (k + 3) (n + length (function_nodes f)) rest same next)

@@ -1,9 +1,9 @@
 -- What the layers above ask of a unit that is spelled.
-use Rattle.std.proofs.Common.{◌≡◌, ◌≤◌, ℕ, suc, ◌+◌, List, [], ◌∷◌, ◌++◌, length, arith, length-append}
-use Rattle.std.specs.List.{flat_map, AllByRecursion}
+use Rattle.std.proofs.Common.{◌≡◌, ◌≤◌, ◌+◌, List, [], ◌∷◌, length, arith, length-append}
+use Rattle.std.specs.List.{AllByRecursion}
 use Rattle.cx_lexer.specs.Tokens.{TokenTree}
 use Rattle.cx_tree.specs.UnitTree.{ExprTree, LiteralTree, CallTree, FunctionTree, UnitTree, IsIntValue, HasIntValue}
-use Rattle.cx_parse_decl.specs.Spelling.{Wanted, AreWanted, value_spelling, function_spelling, unit_spelling, IsValue, HasValue, Spells}
+use Rattle.cx_parse_decl.specs.Spelling.{Wanted, AreWanted, function_spelling, unit_spelling, IsValue, HasValue, Spells}
 
 int_value : (value : ExprTree) → IsValue value → IsIntValue value
 int_value (LiteralTree mark value) h = h

@@ -1,69 +1,41 @@
 -- What is read is what is spelled.
-use Rattle.std.proofs.Common.{◌≡◌, ℕ, zero, suc, ◌+◌, Bool, true, false, cond, List, [], ◌∷◌, length, codes, None, Result, Ok, refl, sym, ap, subst, ◌∙◌, ◌⊎◌, inl, inr, arith, length-append}
+use Rattle.std.proofs.Common.{◌≡◌, ℕ, zero, suc, ◌+◌, Bool, true, false, cond, List, [], ◌∷◌, length, codes, Option, Some, None, Result, Ok, refl, sym, ap, subst, ◌⊎◌, inl, inr, arith, length-append}
 use Rattle.std.specs.List.{AllByRecursion}
 use Rattle.std.proofs.lemmas.List.Concat.{flat_map-cons}
 use Rattle.cx_base.specs.Refusal.{Refusal, ◌>>=◌}
 use Rattle.cx_lexer.specs.declared.token.TokenKind.{TokenKind}
 use Rattle.cx_lexer.specs.declared.token.TokenKind.TheVariants as kind
-use Rattle.cx_lexer.specs.Division.{AreLexed}
-use Rattle.cx_lexer.specs.Tokens.{TokenTree, is_end, is_literal, kind_of, number_of}
+use Rattle.cx_lexer.specs.Division.{EndsOnce}
+use Rattle.cx_lexer.specs.Reading.{is_end}
+use Rattle.cx_lexer.specs.Tokens.{TokenTree}
 use Rattle.cx_tree.specs.UnitTree.{Mark, LiteralTree, CallTree, FunctionTree, UnitTree, expr_nodes, function_nodes, unit_nodes, IsNumberedFrom}
-use Rattle.cx_parse_decl.specs.Grammar.{first_at, token_at, name_at, call_at, value_of, value_at, function_at, functions_at, unit_at}
+use Rattle.cx_parse_decl.specs.Grammar.{first_at, word_at, punct_at, name_at, call_at, int_value, literal_of, value_by, value_at, function_at, functions_at, unit_at}
 use Rattle.cx_parse_decl.specs.Spelling.{Wanted, punct, AreWanted, value_spelling, function_spelling, unit_spelling, IsValue, HasValue, Spells}
-use Rattle.cx_parse_decl.proofs.Lexed.{IsCons, is_int, literal_parts, decimal_again, lexed_step, grammar_kinds}
-use Rattle.cx_parse_decl.proofs.Steps.{Step, ValueStep, FunctionStep, made, at_end, at_semicolon, at_value, at_statement, at_body, at_close, at_open, at_name, call_made, call_close, bind_ok, ok_is, Took, token_took, name_took}
+use Rattle.cx_parse_decl.proofs.Ended.{IsCons, then_ended}
+use Rattle.cx_parse_decl.proofs.Ints.{int_found, int_small}
+use Rattle.cx_parse_decl.proofs.Steps.{ValueStep, FunctionStep, made, at_end, at_semicolon, at_value, at_statement, at_body, at_close, at_open, at_name, call_made, call_close, bind_ok, ok_is, token_found, name_found}
 use Rattle.cx_parse_decl.proofs.Wanted.{AreWantedThen, then_join, wanted_join, numbered_join}
-
--- a step that took a token of a kind, and the tokens behind it
-pub record Found (k : TokenKind) (text : List ℕ) (ts : List TokenTree) (x : Step) : Type 0 where
-  pub parts : ts ≡ x.0 ∷ x.1
-  pub kind : x.0.kind ≡ k
-  pub said : x.0.text ≡ text
-  pub lexed : AreLexed x.1
-
-is_cons : (ts : List TokenTree) (x : Step) → Took ts x → IsCons ts
-is_cons ts x t = rw t.parts tt
-
-token_cons : (text : List ℕ) (ts : List TokenTree) (x : Step) → token_at text ts ≡ Ok x → IsCons ts
-token_cons text ts x e = is_cons ts x (token_took text ts x e).0
-
-token_found : (k : TokenKind) (text : List ℕ) (ts : List TokenTree) (x : Step) → kind_of text ≡ k → AreLexed ts → IsCons x.1 → token_at text ts ≡ Ok x → Found k text ts x
-token_found k text ts x has lexed more e =
-    let t = token_took text ts x e in
-    let l = lexed_step ts x.0 x.1 t.0.parts lexed more in
-    record { parts = t.0.parts; kind = l.0 ∙ ap kind_of t.1 ∙ has; said = t.1; lexed = l.1 }
-
-name_found : (ts : List TokenTree) (x : Step) → AreLexed ts → IsCons x.1 → name_at ts ≡ Ok x → Found kind.Name x.0.text ts x
-name_found ts x lexed more e =
-    let t = name_took ts x e in
-    let l = lexed_step ts x.0 x.1 t.0.parts lexed more in
-    record { parts = t.0.parts; kind = t.1; said = refl; lexed = l.1 }
 
 -- a value that was read from the n-th node on
 pub record ValueFound (n : ℕ) (ts : List TokenTree) (x : ValueStep) : Type 0 where
   pub spelled : AreWantedThen (value_spelling x.0) ts x.2
-  pub lexed : AreLexed x.2
   pub value : IsValue x.0
   pub numbered : IsNumberedFrom n (expr_nodes x.0)
   pub next : x.1 ≡ n + length (expr_nodes x.0)
 
-call_found : (n : ℕ) (ts : List TokenTree) (t : TokenTree) (behind : List TokenTree) (x : ValueStep) → ts ≡ t ∷ behind → t.kind ≡ kind.Name → AreLexed ts → IsCons x.2
-    → call_at n t behind ≡ Ok x → ValueFound n ts x
+call_found : (n : ℕ) (t : TokenTree) (behind : List TokenTree) (x : ValueStep) → t.kind ≡ kind.Name → call_at n t behind ≡ Ok x → ValueFound n (t ∷ behind) x
 unfolding call_at
-call_found n ts t behind x parts is lexed more e =
-    let a = bind_ok (token_at (codes "(") behind) (call_close n t) x e in
-    let b = bind_ok (token_at (codes ")") a.0.1) (call_made n t) x a.2 in
+call_found n t behind x is e =
+    let a = bind_ok (punct_at (codes "(") behind) (call_close n t) x e in
+    let b = bind_ok (punct_at (codes ")") a.0.1) (call_made n t) x a.2 in
     let same : (CallTree (record { node = n + 1; at = t.at }) (record { node = n; at = t.at }) t.text, n + 2, b.0.1) ≡ x = ok_is _ x b.2 in
-    let more_b : IsCons b.0.1 = subst (λ (y : ValueStep). IsCons y.2) (sym same) more in
-    let more_a : IsCons a.0.1 = token_cons (codes ")") a.0.1 b.0 b.1 in
-    let l = lexed_step ts t behind parts lexed (token_cons (codes "(") behind a.0 a.1) in
-    let fa = token_found kind.Punct (codes "(") behind a.0 grammar_kinds.open_round l.1 more_a a.1 in
-    let fb = token_found kind.Punct (codes ")") a.0.1 b.0 grammar_kinds.close_round fa.lexed more_b b.1 in
-    subst (λ (y : ValueStep). ValueFound n ts y) same (record {
+    let fa = token_found kind.Punct (codes "(") behind a.0 a.1 in
+    let fb = token_found kind.Punct (codes ")") a.0.1 b.0 b.1 in
+    subst (λ (y : ValueStep). ValueFound n (t ∷ behind) y) same (record {
       spelled = (
         t,
         behind,
-        parts,
+        refl,
         record { kind = is; text = refl; at = refl },
         (
           a.0.0,
@@ -73,67 +45,54 @@ call_found n ts t behind x parts is lexed more e =
           (b.0.0, b.0.1, fb.parts, record { kind = fb.kind; text = fb.said; at = tt }, refl),
         ),
       );
-      lexed = fb.lexed;
       value = refl;
       numbered = (refl, (refl, tt));
       next = refl;
     })
 
-literal_found : (n : ℕ) (ts : List TokenTree) (t : TokenTree) (behind : List TokenTree) → ts ≡ t ∷ behind → t.kind ≡ kind.Int → is_literal t.text ≡ true → AreLexed behind
-    → ValueFound n ts (LiteralTree (record { node = n; at = t.at }) (number_of t.text), n + 1, behind)
-literal_found n ts t behind parts is literal lexed = record {
-  spelled = (t, behind, parts, record { kind = is; text = sym (decimal_again t.text literal); at = refl }, refl);
-  lexed = lexed;
-  value = (literal_parts t.text literal).2;
-  numbered = (refl, tt);
-  next = refl;
-}
+literal_found : (o : Option ℕ) (n : ℕ) (t : TokenTree) (behind : List TokenTree) (x : ValueStep) → t.kind ≡ kind.Int → int_value t.text ≡ o → literal_of n o t behind ≡ Ok x → ValueFound n (t ∷ behind) x
+literal_found None n t behind x is says e = absurd cc
+literal_found (Some value) n t behind x is says e =
+    let same : (LiteralTree (record { node = n; at = t.at }) value, n + 1, behind) ≡ x = ok_is _ x e in
+    subst (λ (y : ValueStep). ValueFound n (t ∷ behind) y) same (record {
+      spelled = (t, behind, refl, record { kind = is; text = int_found t.text value says; at = refl }, refl);
+      value = int_small t.text value says;
+      numbered = (refl, tt);
+      next = refl;
+    })
 
-value_of_found : (k : TokenKind) (n : ℕ) (t : TokenTree) (behind : List TokenTree) (x : ValueStep) → t.kind ≡ k → AreLexed (t ∷ behind) → IsCons x.2
-    → value_of n k t behind ≡ Ok x → ValueFound n (t ∷ behind) x
-value_of_found kind.Name n t behind x is lexed more e = call_found n (t ∷ behind) t behind x refl is lexed more e
-value_of_found kind.Int n t behind x is lexed more e =
-    let same : (LiteralTree (record { node = n; at = t.at }) (number_of t.text), n + 1, behind) ≡ x = ok_is _ x e in
-    let l = lexed_step (t ∷ behind) t behind refl lexed (subst (λ (y : ValueStep). IsCons y.2) (sym same) more) in
-    subst (λ (y : ValueStep). ValueFound n (t ∷ behind) y) same (literal_found n (t ∷ behind) t behind refl is (is_int t lexed.kinds.0 is) l.1)
-value_of_found kind.Word n t behind x is lexed more e = absurd cc
-value_of_found kind.Punct n t behind x is lexed more e = absurd cc
-value_of_found kind.End n t behind x is lexed more e = absurd cc
-value_of_found kind.Stray n t behind x is lexed more e = absurd cc
+value_by_found : (k : TokenKind) (n : ℕ) (t : TokenTree) (behind : List TokenTree) (x : ValueStep) → t.kind ≡ k → value_by n k t behind ≡ Ok x → ValueFound n (t ∷ behind) x
+value_by_found kind.Name n t behind x is e = call_found n t behind x is e
+value_by_found kind.Int n t behind x is e = literal_found (int_value t.text) n t behind x is refl e
+value_by_found kind.Word n t behind x is e = absurd cc
+value_by_found kind.Str n t behind x is e = absurd cc
+value_by_found kind.Punct n t behind x is e = absurd cc
+value_by_found kind.End n t behind x is e = absurd cc
 
-value_found : (n : ℕ) (ts : List TokenTree) (x : ValueStep) → AreLexed ts → IsCons x.2 → value_at n ts ≡ Ok x → ValueFound n ts x
+value_found : (n : ℕ) (ts : List TokenTree) (x : ValueStep) → value_at n ts ≡ Ok x → ValueFound n ts x
 unfolding value_at first_at
-value_found n [] x lexed more e = absurd cc
-value_found n (t ∷ behind) x lexed more e = value_of_found t.kind n t behind x refl lexed more e
-
-name_cons : (ts : List TokenTree) (x : Step) → name_at ts ≡ Ok x → IsCons ts
-name_cons ts x e = is_cons ts x (name_took ts x e).0
-
-value_cons : (n : ℕ) (ts : List TokenTree) (x : ValueStep) → value_at n ts ≡ Ok x → IsCons ts
-unfolding value_at first_at
-value_cons n [] x e = absurd cc
-value_cons n (t ∷ behind) x e = tt
+value_found n [] x e = absurd cc
+value_found n (t ∷ behind) x e = value_by_found t.kind n t behind x refl e
 
 -- a function that was read from the n-th node on
 pub record FunctionFound (n : ℕ) (ts : List TokenTree) (x : FunctionStep) : Type 0 where
   pub spelled : AreWantedThen (function_spelling x.0) ts x.2
-  pub lexed : AreLexed x.2
   pub value : HasValue x.0
   pub numbered : IsNumberedFrom n (function_nodes x.0)
   pub next : x.1 ≡ n + length (function_nodes x.0)
 
-pub function_found : (n : ℕ) (ts : List TokenTree) (x : FunctionStep) → AreLexed ts → IsCons x.2 → function_at n ts ≡ Ok x → FunctionFound n ts x
+pub function_found : (n : ℕ) (ts : List TokenTree) (x : FunctionStep) → function_at n ts ≡ Ok x → FunctionFound n ts x
 unfolding function_at
-function_found n ts x lexed more e =
-    let a = bind_ok (token_at (codes "int") ts) (at_name n) x e in
+function_found n ts x e =
+    let a = bind_ok (word_at (codes "int") ts) (at_name n) x e in
     let b = bind_ok (name_at a.0.1) (at_open n a.0) x a.2 in
-    let c = bind_ok (token_at (codes "(") b.0.1) (at_close n a.0 b.0) x b.2 in
-    let d = bind_ok (token_at (codes ")") c.0.1) (at_body n a.0 b.0) x c.2 in
-    let g = bind_ok (token_at (codes "{") d.0.1) (at_statement n a.0 b.0) x d.2 in
-    let s = bind_ok (token_at (codes "return") g.0.1) (at_value n a.0 b.0 g.0) x g.2 in
+    let c = bind_ok (punct_at (codes "(") b.0.1) (at_close n a.0 b.0) x b.2 in
+    let d = bind_ok (punct_at (codes ")") c.0.1) (at_body n a.0 b.0) x c.2 in
+    let g = bind_ok (punct_at (codes "{") d.0.1) (at_statement n a.0 b.0) x d.2 in
+    let s = bind_ok (word_at (codes "return") g.0.1) (at_value n a.0 b.0 g.0) x g.2 in
     let v = bind_ok (value_at (n + 1) s.0.1) (at_semicolon n a.0 b.0 g.0 s.0) x s.2 in
-    let h = bind_ok (token_at (codes ";") v.0.2) (at_end n a.0 b.0 g.0 s.0 v.0) x v.2 in
-    let i = bind_ok (token_at (codes "}") h.0.1) (made n a.0 b.0 g.0 s.0 v.0) x h.2 in
+    let h = bind_ok (punct_at (codes ";") v.0.2) (at_end n a.0 b.0 g.0 s.0 v.0) x v.2 in
+    let i = bind_ok (punct_at (codes "}") h.0.1) (made n a.0 b.0 g.0 s.0 v.0) x h.2 in
     let f : FunctionTree = record {
       mark = record { node = v.0.1 + 2; at = b.0.0.at };
       type = record { node = n; at = a.0.0.at };
@@ -143,15 +102,15 @@ function_found n ts x lexed more e =
       value = v.0.0;
     } in
     let same : (f, v.0.1 + 3, i.0.1) ≡ x = ok_is _ x i.2 in
-    let fa = token_found kind.Word (codes "int") ts a.0 grammar_kinds.int lexed (name_cons a.0.1 b.0 b.1) a.1 in
-    let fb = name_found a.0.1 b.0 fa.lexed (token_cons (codes "(") b.0.1 c.0 c.1) b.1 in
-    let fc = token_found kind.Punct (codes "(") b.0.1 c.0 grammar_kinds.open_round fb.lexed (token_cons (codes ")") c.0.1 d.0 d.1) c.1 in
-    let fd = token_found kind.Punct (codes ")") c.0.1 d.0 grammar_kinds.close_round fc.lexed (token_cons (codes "{") d.0.1 g.0 g.1) d.1 in
-    let fg = token_found kind.Punct (codes "{") d.0.1 g.0 grammar_kinds.open_curly fd.lexed (token_cons (codes "return") g.0.1 s.0 s.1) g.1 in
-    let fs = token_found kind.Word (codes "return") g.0.1 s.0 grammar_kinds.return_word fg.lexed (value_cons (n + 1) s.0.1 v.0 v.1) s.1 in
-    let fv = value_found (n + 1) s.0.1 v.0 fs.lexed (token_cons (codes ";") v.0.2 h.0 h.1) v.1 in
-    let fh = token_found kind.Punct (codes ";") v.0.2 h.0 grammar_kinds.semicolon fv.lexed (token_cons (codes "}") h.0.1 i.0 i.1) h.1 in
-    let fi = token_found kind.Punct (codes "}") h.0.1 i.0 grammar_kinds.close_curly fh.lexed (subst (λ (y : FunctionStep). IsCons y.2) (sym same) more) i.1 in
+    let fa = token_found kind.Word (codes "int") ts a.0 a.1 in
+    let fb = name_found a.0.1 b.0 b.1 in
+    let fc = token_found kind.Punct (codes "(") b.0.1 c.0 c.1 in
+    let fd = token_found kind.Punct (codes ")") c.0.1 d.0 d.1 in
+    let fg = token_found kind.Punct (codes "{") d.0.1 g.0 g.1 in
+    let fs = token_found kind.Word (codes "return") g.0.1 s.0 s.1 in
+    let fv = value_found (n + 1) s.0.1 v.0 v.1 in
+    let fh = token_found kind.Punct (codes ";") v.0.2 h.0 h.1 in
+    let fi = token_found kind.Punct (codes "}") h.0.1 i.0 i.1 in
     let tail : AreWantedThen (punct (codes ";") None ∷ punct (codes "}") None ∷ []) v.0.2 i.0.1 =
     (h.0.0, h.0.1, fh.parts, record { kind = fh.kind; text = fh.said; at = tt }, (i.0.0, i.0.1, fi.parts, record { kind = fi.kind; text = fi.said; at = tt }, refl)) in
     let last : IsNumberedFrom (n + 1 + length (expr_nodes v.0.0)) (f.statement ∷ f.body ∷ f.mark ∷ []) = (fv.next, (ap (λ (k : ℕ). k + 1) fv.next, (omega (arith, fv.next), tt))) in
@@ -193,7 +152,6 @@ function_found n ts x lexed more e =
           ),
         ),
       );
-      lexed = fi.lexed;
       value = fv.value;
       numbered = (refl, numbered_join (n + 1) (expr_nodes v.0.0) (f.statement ∷ f.body ∷ f.mark ∷ []) fv.numbered last);
       next = omega (arith, fv.next, length-append (expr_nodes v.0.0) (f.statement ∷ f.body ∷ f.mark ∷ []));
@@ -217,11 +175,11 @@ is_the_end kind.Name e = absurd cc
 is_the_end kind.Word e = absurd cc
 is_the_end kind.Int e = absurd cc
 is_the_end kind.Punct e = absurd cc
-is_the_end kind.Stray e = absurd cc
+is_the_end kind.Str e = absurd cc
 
-end_alone : (t : TokenTree) (ts : List TokenTree) → AreLexed (t ∷ ts) → t.kind ≡ kind.End → AreWanted [] (t ∷ ts)
-end_alone t [] lexed end = end
-end_alone t (u ∷ us) lexed end = absurd (lexed.ended.0 end)
+end_alone : (t : TokenTree) (ts : List TokenTree) → EndsOnce (t ∷ ts) → t.kind ≡ kind.End → AreWanted [] (t ∷ ts)
+end_alone t [] ended end = end
+end_alone t (u ∷ us) ended end = absurd (ended.0 end)
 
 -- functions that were read from the n-th node on
 record FunctionsFound (n : ℕ) (ts : List TokenTree) (u : UnitTree) : Type 0 where
@@ -239,23 +197,24 @@ one_more n next ts rest f fs first others = record {
 abbrev others_at : ℕ → FunctionStep → Result UnitTree Refusal
 others_at most first = functions_at most first.1 first.2 >>= λ others. Ok (first.0 ∷ others)
 
-functions_found : (most n : ℕ) (ts : List TokenTree) (u : UnitTree) → AreLexed ts → functions_at most n ts ≡ Ok u → FunctionsFound n ts u
+functions_found : (most n : ℕ) (ts : List TokenTree) (u : UnitTree) → EndsOnce ts → functions_at most n ts ≡ Ok u → FunctionsFound n ts u
 unfolding functions_at
-functions_found zero n ts u lexed e = absurd cc
-functions_found (suc most) n [] u lexed e = absurd cc
-functions_found (suc most) n (t ∷ ts) u lexed e =
+functions_found zero n ts u ended e = absurd cc
+functions_found (suc most) n [] u ended e = absurd cc
+functions_found (suc most) n (t ∷ ts) u ended e =
     elim (guard_end (is_end t.kind) [] (function_at n (t ∷ ts) >>= others_at most) u e) [
-      | inl end ↦ subst (λ (y : UnitTree). FunctionsFound n (t ∷ ts) y) end.1 (record { wanted = end_alone t ts lexed (is_the_end t.kind end.0); values = tt; numbered = tt })
+      | inl end ↦ subst (λ (y : UnitTree). FunctionsFound n (t ∷ ts) y) end.1 (record { wanted = end_alone t ts ended (is_the_end t.kind end.0); values = tt; numbered = tt })
       | inr more ↦
           let a = bind_ok (function_at n (t ∷ ts)) (others_at most) u more.1 in
           let b = bind_ok (functions_at most a.0.1 a.0.2) (λ others. Ok (a.0.0 ∷ others)) u a.2 in
-          let first = function_found n (t ∷ ts) a.0 lexed (functions_cons most a.0.1 a.0.2 b.0 b.1) a.1 in
-          let others = functions_found most a.0.1 a.0.2 b.0 first.lexed b.1 in
+          let first = function_found n (t ∷ ts) a.0 a.1 in
+          let still = then_ended (function_spelling a.0.0) (t ∷ ts) a.0.2 first.spelled (functions_cons most a.0.1 a.0.2 b.0 b.1) ended in
+          let others = functions_found most a.0.1 a.0.2 b.0 still b.1 in
           subst (λ (y : UnitTree). FunctionsFound n (t ∷ ts) y) (ok_is (a.0.0 ∷ b.0) u b.2) (one_more n a.0.1 (t ∷ ts) a.0.2 a.0.0 b.0 first others)
     ]
 
-pub unit_found : (ts : List TokenTree) (u : UnitTree) → AreLexed ts → unit_at ts ≡ Ok u → Spells ts u
+pub unit_found : (ts : List TokenTree) (u : UnitTree) → EndsOnce ts → unit_at ts ≡ Ok u → Spells ts u
 unfolding unit_at
-unit_found ts u lexed e =
-    let found = functions_found (length ts) 0 ts u lexed e in
+unit_found ts u ended e =
+    let found = functions_found (length ts) 0 ts u ended e in
     record { wanted = found.wanted; values = found.values; numbered = found.numbered }

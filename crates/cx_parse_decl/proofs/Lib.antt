@@ -1,8 +1,10 @@
+pub mod Words
 pub mod Rest
-pub mod Lexed
+pub mod Ints
 pub mod Loop
 pub mod Steps
 pub mod Wanted
+pub mod Ended
 pub mod Found
 pub mod Again
 pub mod Refused

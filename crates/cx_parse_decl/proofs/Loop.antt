@@ -5,10 +5,10 @@ use Rattle.cx_lexer.specs.declared.token.Token.{Token}
 use Rattle.cx_base.specs.declared.stop.Stop.{Stop}
 use Rattle.cx_base.specs.declared.stop.Stop.TheVariants as stop
 use Rattle.cx_base.specs.Refusal.{Refusal, Refused, Passed, ◌>>=◌, Stops}
-use Rattle.cx_lexer.specs.Tokens.{TokenTree, token_tree, start}
+use Rattle.cx_lexer.specs.Tokens.{TokenTree, token_tree}
 use Rattle.cx_tree.specs.declared.function.Function.{Function}
 use Rattle.cx_tree.specs.UnitTree.{FunctionTree, UnitTree, function_tree}
-use Rattle.cx_parse_decl.specs.Grammar.{syntax, first_at, token_at, function_at, functions_at, unit_at}
+use Rattle.cx_parse_decl.specs.Grammar.{ran_out, first_at, token_at, function_at, functions_at, unit_at}
 use Rattle.cx_parse_decl.specs.Rest.{rest_at, begins_with_end}
 
 -- what was read before, and what is still read
@@ -20,11 +20,11 @@ regroup front f (Ok fs) = ap (λ (u : UnitTree). Ok u) (simp append_assoc)
 regroup front f (Err r) = refl
 
 -- nothing is left to read
-at_nothing : (n : ℕ) → function_at n [] ≡ Err (syntax start)
+at_nothing : (n : ℕ) → function_at n [] ≡ Err ran_out
 unfolding function_at token_at first_at
 at_nothing n = refl
 
-none_at_nothing : (most n : ℕ) → functions_at most n [] ≡ Err (syntax start)
+none_at_nothing : (most n : ℕ) → functions_at most n [] ≡ Err ran_out
 unfolding functions_at
 none_at_nothing zero n = refl
 none_at_nothing (suc most) n = refl

@@ -1,20 +1,22 @@
 -- Where a unit stops: the tokens before begin a unit, and with the one that does not fit they begin none.
-use Rattle.std.proofs.Common.{◌≡◌, ◌≢◌, ℕ, zero, suc, ◌+◌, ◌≤◌, Bool, true, false, cond, List, [], ◌∷◌, ◌++◌, length, codes, Result, Ok, Err, refl, sym, ap, subst, ◌∙◌, append_assoc, arith, length-append}
+use Rattle.std.proofs.Common.{◌≡◌, ◌≢◌, ℕ, zero, suc, ◌≤◌, Bool, true, false, cond, List, [], ◌∷◌, ◌++◌, length, Result, Ok, Err, refl, sym, ap, subst, ◌∙◌, append_assoc, arith, length-append}
 use Rattle.std.specs.List.{AllByRecursion}
-use Rattle.cx_base.specs.declared.place.Place.{Place}
-use Rattle.cx_base.specs.Refusal.{Refusal, Refused, Passed, ◌>>=◌}
+use Rattle.cx_base.specs.Refusal.{Refusal, ◌>>=◌}
 use Rattle.cx_lexer.specs.declared.token.TokenKind.{TokenKind}
 use Rattle.cx_lexer.specs.declared.token.TokenKind.TheVariants as kind
-use Rattle.cx_lexer.specs.Division.{AreLexed, EndsOnce}
-use Rattle.cx_lexer.specs.Tokens.{TokenTree, is_end, start}
+use Rattle.cx_lexer.specs.Division.{EndsOnce}
+use Rattle.cx_lexer.specs.Places.{start}
+use Rattle.cx_lexer.specs.Reading.{is_end}
+use Rattle.cx_lexer.specs.Tokens.{TokenTree}
 use Rattle.cx_tree.specs.UnitTree.{FunctionTree, UnitTree}
-use Rattle.cx_parse_decl.specs.Grammar.{syntax, first_at, token_at, function_at, functions_at, unit_at}
+use Rattle.cx_parse_decl.specs.Fault.{misfit}
+use Rattle.cx_parse_decl.specs.Grammar.{ran_out, first_at, is_token, token_at, function_at, functions_at, unit_at}
 use Rattle.cx_parse_decl.specs.Rest.{begins_with_end}
-use Rattle.cx_parse_decl.specs.Spelling.{IsLexed, Spells, EndIsBare, BeginsUnit, IsMisfit}
+use Rattle.cx_parse_decl.specs.Spelling.{Spells, IsMisfit}
 use Rattle.cx_parse_decl.proofs.Again.{unit_again}
 use Rattle.cx_parse_decl.proofs.Found.{unit_found}
 use Rattle.cx_parse_decl.proofs.Steps.{FunctionStep}
-use Rattle.cx_parse_decl.proofs.Readers.{IsGood, Ended, Takes, Fits, Stops, Went, Took, Stopped, Reader, function_triple, function_reader, good_append}
+use Rattle.cx_parse_decl.proofs.Readers.{IsGood, Takes, Stops, Took, Stopped, function_triple, function_reader, good_append}
 
 abbrev the_end : TokenTree
 the_end = record { kind = kind.End; text = []; at = start }
@@ -26,7 +28,7 @@ not_end kind.Name h = refl
 not_end kind.Word h = refl
 not_end kind.Int h = refl
 not_end kind.Punct h = refl
-not_end kind.Stray h = refl
+not_end kind.Str h = refl
 not_end kind.End h = absurd (h refl)
 
 -- of a front with a token behind it, whatever follows
@@ -45,15 +47,15 @@ first_of_some (x ∷ xs) behind more some h = h
 
 first_good : (xs more : List TokenTree) → IsSome xs → AllByRecursion IsGood xs → begins_with_end (xs ++ more) ≡ false
 first_good [] more some good = absurd some
-first_good (x ∷ xs) more some good = not_end x.kind good.0.0
+first_good (x ∷ xs) more some good = not_end x.kind good.0
 
 -- no function is read from nothing, nor from the end
-at_nothing : (n : ℕ) → function_at n [] ≡ Err (syntax start)
+at_nothing : (n : ℕ) → function_at n [] ≡ Err ran_out
 unfolding function_at token_at first_at
 at_nothing n = refl
 
-at_the_end : (n : ℕ) → function_at n (the_end ∷ []) ≡ Err (syntax start)
-unfolding function_at token_at first_at
+at_the_end : (n : ℕ) → function_at n (the_end ∷ []) ≡ Err (misfit the_end)
+unfolding function_at token_at is_token first_at
 at_the_end n = refl
 
 taken_some : (n : ℕ) (taken : List TokenTree) (x : FunctionTree × ℕ × List TokenTree) → function_at n (taken ++ []) ≡ Ok x → IsSome taken
@@ -94,25 +96,17 @@ still_refused f (Err s) r e = ap (λ (x : Refusal). refused x) (same_refusal s r
 -- ---- the functions of a unit
 
 -- They stop at a token, whatever stands behind; without it there are tokens that fit.
-pub record UnitStops (n : ℕ) (ts : List TokenTree) (at : Place) : Type 0 where
+pub record UnitStops (n : ℕ) (ts : List TokenTree) (r : Refusal) : Type 0 where
   pub front : List TokenTree
   pub token : TokenTree
   pub behind : List TokenTree
   pub parts : ts ≡ front ++ token ∷ behind
-  pub placed : token.at ≡ at
-  pub again : (more : List TokenTree) (most : ℕ) → length (front ++ token ∷ more) ≤ most → functions_at most n (front ++ token ∷ more) ≡ Err (syntax at)
+  pub refused : r ≡ misfit token
+  pub again : (more : List TokenTree) (most : ℕ) → length (front ++ token ∷ more) ≤ most → functions_at most n (front ++ token ∷ more) ≡ Err r
   pub more : List TokenTree
   pub kinds : AllByRecursion IsGood more
   pub unit : UnitTree
   pub reads : (most : ℕ) → length (front ++ (more ++ the_end ∷ [])) ≤ most → functions_at most n (front ++ (more ++ the_end ∷ [])) ≡ Ok unit
-
-place_of : Refusal → Place
-place_of (Refused f) = f.at
-place_of (Passed l at) = at
-
-same_place : (p q : Place) → refused (syntax p) ≡ refused (syntax q) → p ≡ q
-unfolding place_of
-same_place p q e = ap place_of (same_refusal (syntax p) (syntax q) e)
 
 some_append : (front : List TokenTree) (t : TokenTree) (more : List TokenTree) → IsSome (front ++ t ∷ more)
 some_append [] t more = tt
@@ -139,8 +133,8 @@ fit_first [] more rest t behind some good h = first_good more rest some good
 fit_first (x ∷ xs) more rest t behind some good h = h
 
 -- the first function stops
-stops_first : (n : ℕ) (t : TokenTree) (ts : List TokenTree) (at : Place) → is_end t.kind ≡ false → (s : Stops (function_at n) function_triple (t ∷ ts)) → s.token.at ≡ at → UnitStops n (t ∷ ts) at
-stops_first n t ts at more s placed =
+stops_first : (n : ℕ) (t : TokenTree) (ts : List TokenTree) (r : Refusal) → is_end t.kind ≡ false → (s : Stops (function_at n) function_triple (t ∷ ts)) → r ≡ misfit s.token → UnitStops n (t ∷ ts) r
+stops_first n t ts r more s stopped =
     let first : begins_with_end (s.front ++ s.token ∷ s.behind) ≡ false = subst (λ (xs : List TokenTree). begins_with_end xs ≡ false) s.parts more in
     let end : List TokenTree = the_end ∷ [] in
     let fit : function_at n (s.front ++ (s.fits.more ++ end)) ≡ Ok (s.fits.value.0, s.fits.value.1, end) = s.fits.reads end in
@@ -151,9 +145,9 @@ stops_first n t ts at more s placed =
       token = s.token;
       behind = s.behind;
       parts = s.parts;
-      placed = placed;
-      again = λ behind most room. subst (λ (p : Place). functions_at most n (s.front ++ s.token ∷ behind) ≡ Err (syntax p)) placed
-          (all_refused most n (s.front ++ s.token ∷ behind) (syntax s.token.at) (same_first s.front s.token s.behind behind first) (some_append s.front s.token behind) (s.again behind) room);
+      refused = stopped;
+      again = λ behind most room. subst (λ (q : Refusal). functions_at most n (s.front ++ s.token ∷ behind) ≡ refused q) (sym stopped)
+          (all_refused most n (s.front ++ s.token ∷ behind) (misfit s.token) (same_first s.front s.token s.behind behind first) (some_append s.front s.token behind) (s.again behind) room);
       more = s.fits.more;
       kinds = s.fits.kinds;
       unit = s.fits.value.0 ∷ [];
@@ -171,8 +165,8 @@ step (suc less) n taken behind a read some more e others room =
     one_step less n a.1 (taken ++ behind) behind a.0 more e ∙ rw rest refl
 
 -- those behind the first function stop
-stops_behind : (n : ℕ) (t : TokenTree) (ts rest : List TokenTree) (a : FunctionTree × ℕ) (at : Place) → is_end t.kind ≡ false → Takes (function_at n) function_triple (t ∷ ts) a rest → UnitStops a.1 rest at → UnitStops n (t ∷ ts) at
-stops_behind n t ts rest a at more k s =
+stops_behind : (n : ℕ) (t : TokenTree) (ts rest : List TokenTree) (a : FunctionTree × ℕ) (r : Refusal) → is_end t.kind ≡ false → Takes (function_at n) function_triple (t ∷ ts) a rest → UnitStops a.1 rest r → UnitStops n (t ∷ ts) r
+stops_behind n t ts rest a r more k s =
     let some : IsSome k.taken = taken_some n k.taken _ (k.again []) in
     let first : begins_with_end (k.taken ++ rest) ≡ false = subst (λ (xs : List TokenTree). begins_with_end xs ≡ false) k.parts more in
     record {
@@ -180,11 +174,11 @@ stops_behind n t ts rest a at more k s =
       token = s.token;
       behind = s.behind;
       parts = k.parts ∙ ap (λ (xs : List TokenTree). k.taken ++ xs) s.parts ∙ sym (append_assoc k.taken s.front (s.token ∷ s.behind));
-      placed = s.placed;
+      refused = s.refused;
       again = λ behind most room.
           let e = append_assoc k.taken s.front (s.token ∷ behind) in
           let room' : length (k.taken ++ (s.front ++ s.token ∷ behind)) ≤ most = rw e at room in
-          rw e (step most n k.taken (s.front ++ s.token ∷ behind) a (Err (syntax at)) some (first_of_some k.taken rest (s.front ++ s.token ∷ behind) some first) (k.again (s.front ++ s.token ∷ behind)) (s.again behind) room');
+          rw e (step most n k.taken (s.front ++ s.token ∷ behind) a (Err r) some (first_of_some k.taken rest (s.front ++ s.token ∷ behind) some first) (k.again (s.front ++ s.token ∷ behind)) (s.again behind) room');
       more = s.more;
       kinds = s.kinds;
       unit = a.0 ∷ s.unit;
@@ -208,57 +202,50 @@ after_ok read next x e = rw e refl
 after_err : (read : Result FunctionStep Refusal) (next : FunctionStep → Result UnitTree Refusal) (r : Refusal) → read ≡ Err r → (read >>= next) ≡ Err r
 after_err read next r e = rw e refl
 
-functions_stop : (most n : ℕ) (ts : List TokenTree) (at : Place) → length ts ≤ most → Ended ts → functions_at most n ts ≡ Err (syntax at) → UnitStops n ts at
+functions_stop : (most n : ℕ) (ts : List TokenTree) (r : Refusal) → length ts ≤ most → EndsOnce ts → functions_at most n ts ≡ Err r → UnitStops n ts r
 unfolding functions_at
-functions_stop most n [] at room ended e = absurd ended
-functions_stop zero n (t ∷ ts) at room ended e = absurd (omega arith)
-functions_stop (suc most) n (t ∷ ts) at room ended e =
-    let g = guard_refused (is_end t.kind) (function_at n (t ∷ ts) >>= others_at most) (syntax at) e in
+functions_stop most n [] r room ended e = absurd ended
+functions_stop zero n (t ∷ ts) r room ended e = absurd (omega arith)
+functions_stop (suc most) n (t ∷ ts) r room ended e =
+    let g = guard_refused (is_end t.kind) (function_at n (t ∷ ts) >>= others_at most) r e in
     elim ((function_reader n).went (t ∷ ts) ended) [
       | Took a rest k ended' ↦
           let some : IsSome k.taken = taken_some n k.taken _ (k.again []) in
           let read : function_at n (t ∷ ts) ≡ Ok (function_triple a rest) = ap (λ (xs : List TokenTree). function_at n xs) k.parts ∙ k.again rest in
-          let others = still_refused a.0 (functions_at most a.1 rest) (syntax at) (sym (after_ok (function_at n (t ∷ ts)) (others_at most) (function_triple a rest) read) ∙ g.1) in
+          let others = still_refused a.0 (functions_at most a.1 rest) r (sym (after_ok (function_at n (t ∷ ts)) (others_at most) (function_triple a rest) read) ∙ g.1) in
           let less : length rest ≤ most = omega (arith, length_some k.taken some, ap (λ (xs : List TokenTree). length xs) k.parts, length-append k.taken rest) in
-          stops_behind n t ts rest a at g.0 k (functions_stop most a.1 rest at less ended' others)
+          stops_behind n t ts rest a r g.0 k (functions_stop most a.1 rest r less ended' others)
       | Stopped s ↦
-          let read : function_at n (t ∷ ts) ≡ Err (syntax s.token.at) = ap (λ (xs : List TokenTree). function_at n xs) s.parts ∙ s.again s.behind in
-          let placed = same_place s.token.at at (sym (after_err (function_at n (t ∷ ts)) (others_at most) (syntax s.token.at) read) ∙ g.1) in
-          stops_first n t ts at g.0 s placed
+          let read : function_at n (t ∷ ts) ≡ Err (misfit s.token) = ap (λ (xs : List TokenTree). function_at n xs) s.parts ∙ s.again s.behind in
+          let stopped = same_refusal r (misfit s.token) (sym g.1 ∙ after_err (function_at n (t ∷ ts)) (others_at most) (misfit s.token) read) in
+          stops_first n t ts r g.0 s stopped
     ]
 
 -- ---- the unit
 
-ended_of : (ts : List TokenTree) → EndsOnce ts → EndIsBare ts → Ended ts
-ended_of [] once bare = absurd once
-ended_of (t ∷ []) once bare = (once, bare.0 once)
-ended_of (t ∷ u ∷ ts) once bare = (once.0, ended_of (u ∷ ts) once.1 bare.1)
+front_good : (front : List TokenTree) (t : TokenTree) (behind : List TokenTree) → EndsOnce (front ++ t ∷ behind) → AllByRecursion IsGood front
+front_good [] t behind ended = tt
+front_good (x ∷ []) t behind ended = (ended.0, tt)
+front_good (x ∷ y ∷ ys) t behind ended = (ended.0, front_good (y ∷ ys) t behind ended.1)
 
-front_good : (front : List TokenTree) (t : TokenTree) (behind : List TokenTree) → AreLexed (front ++ t ∷ behind) → AllByRecursion IsGood front
-front_good [] t behind lexed = tt
-front_good (x ∷ []) t behind lexed = ((lexed.ended.0, lexed.kinds.0 lexed.ended.0), tt)
-front_good (x ∷ y ∷ ys) t behind lexed = ((lexed.ended.0, lexed.kinds.0 lexed.ended.0), front_good (y ∷ ys) t behind (record { kinds = lexed.kinds.1; ended = lexed.ended.1 }))
+good_ended : (ts : List TokenTree) → AllByRecursion IsGood ts → EndsOnce (ts ++ the_end ∷ [])
+good_ended [] good = refl
+good_ended (t ∷ []) good = (good.0, refl)
+good_ended (t ∷ u ∷ ts) good = (good.0, good_ended (u ∷ ts) good.1)
 
-good_ended : (ts : List TokenTree) → AllByRecursion IsGood ts → AreLexed (ts ++ the_end ∷ [])
-good_ended [] good = record { kinds = (λ no_end. absurd (no_end refl), tt); ended = refl }
-good_ended (t ∷ []) good = record { kinds = (λ no_end. good.0.1, (λ no_end. absurd (no_end refl), tt)); ended = (good.0.0, refl) }
-good_ended (t ∷ u ∷ ts) good =
-    let more = good_ended (u ∷ ts) good.1 in
-    record { kinds = (λ no_end. good.0.1, more.kinds); ended = (good.0.0, more.ended) }
-
-pub unit_misfit : (ts : List TokenTree) (at : Place) → AreLexed ts → EndIsBare ts → unit_at ts ≡ Err (syntax at) → IsMisfit ts at
+pub unit_misfit : (ts : List TokenTree) (r : Refusal) → EndsOnce ts → unit_at ts ≡ Err r → IsMisfit ts r
 unfolding unit_at
-unit_misfit ts at lexed bare e =
-    let s = functions_stop (length ts) 0 ts at (omega arith) (ended_of ts lexed.ended bare) e in
-    let good = front_good s.front s.token s.behind (subst (λ (xs : List TokenTree). AreLexed xs) s.parts lexed) in
+unit_misfit ts r ended e =
+    let s = functions_stop (length ts) 0 ts r (omega arith) ended e in
+    let good = front_good s.front s.token s.behind (subst (λ (xs : List TokenTree). EndsOnce xs) s.parts ended) in
     let end : List TokenTree = the_end ∷ [] in
-    let whole : AreLexed (s.front ++ (s.more ++ end)) = subst (λ (xs : List TokenTree). AreLexed xs) (append_assoc s.front s.more end) (good_ended (s.front ++ s.more) (good_append s.front s.more good s.kinds)) in
+    let whole : EndsOnce (s.front ++ (s.more ++ end)) = subst (λ (xs : List TokenTree). EndsOnce xs) (append_assoc s.front s.more end) (good_ended (s.front ++ s.more) (good_append s.front s.more good s.kinds)) in
     record {
       front = s.front;
       token = s.token;
       behind = s.behind;
       parts = s.parts;
-      placed = s.placed;
+      refused = s.refused;
       before = (s.more ++ end, s.unit, unit_found (s.front ++ (s.more ++ end)) s.unit whole (s.reads (length (s.front ++ (s.more ++ end))) (omega arith)));
       misfit = λ b.
           let regrouped : (s.front ++ s.token ∷ []) ++ b.0 ≡ s.front ++ s.token ∷ b.0 = append_assoc s.front (s.token ∷ []) b.0 in

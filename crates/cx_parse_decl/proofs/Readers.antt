@@ -1,28 +1,24 @@
 -- Where reading stops: the tokens before are the front of a unit, and with the one that does not fit they are none.
-use Rattle.std.proofs.Common.{◌≡◌, ◌≢◌, ℕ, zero, suc, ◌+◌, ◌≤◌, Bool, true, false, cond, List, [], ◌∷◌, ◌++◌, length, codes, Result, Ok, Err, refl, sym, ap, subst, ◌∙◌, inl, inr, append_assoc, arith, length-append}
+use Rattle.std.proofs.Common.{◌≡◌, ◌≢◌, ℕ, ◌+◌, false, List, [], ◌∷◌, ◌++◌, codes, Option, Some, None, Result, Ok, Err, refl, sym, ap, ◌∙◌, inl, inr, append_assoc}
 use Rattle.std.specs.List.{AllByRecursion}
-use Rattle.std.specs.Str.{bytes_eq}
 use Rattle.std.proofs.lemmas.Bool.{cases_Bool}
-use Rattle.std.proofs.lemmas.Slice.Eq.{bytes_eq-Decides}
-use Rattle.cx_base.specs.declared.place.Place.{Place}
 use Rattle.cx_base.specs.Refusal.{Refusal, ◌>>=◌}
 use Rattle.cx_lexer.specs.declared.token.TokenKind.{TokenKind}
 use Rattle.cx_lexer.specs.declared.token.TokenKind.TheVariants as kind
-use Rattle.cx_lexer.specs.Tokens.{TokenTree, token_of, text_as, kind_of, number_of, start}
+use Rattle.cx_lexer.specs.Division.{EndsOnce}
+use Rattle.cx_lexer.specs.Characters.{is_digit}
+use Rattle.cx_lexer.specs.Literals.{type_of, value_of, digits_of, suffix_of, is_hexadecimal, is_unsigned, is_long}
+use Rattle.cx_lexer.specs.Places.{start}
+use Rattle.cx_lexer.specs.Tokens.{TokenTree}
+use Rattle.cx_lexer.specs.Words.{has_word, unsigned_suffixes, long_suffixes, unsigned_long_suffixes}
 use Rattle.cx_tree.specs.UnitTree.{ExprTree, LiteralTree, CallTree, FunctionTree}
-use Rattle.cx_parse_decl.specs.Grammar.{syntax, first_at, token_at, name_of, name_at, call_at, value_of, value_at, function_at}
-use Rattle.cx_parse_decl.proofs.Lexed.{grammar_kinds}
-use Rattle.cx_parse_decl.proofs.Steps.{Step, ValueStep, FunctionStep, made, at_end, at_semicolon, at_value, at_statement, at_body, at_close, at_open, at_name, call_made, call_close, token_again, name_again}
+use Rattle.cx_parse_decl.specs.Fault.{misfit}
+use Rattle.cx_parse_decl.specs.Grammar.{first_at, is_token, token_at, word_at, punct_at, name_of, name_at, call_at, int_value, literal_of, value_by, value_at, function_at}
+use Rattle.cx_parse_decl.proofs.Steps.{Step, ValueStep, FunctionStep, made, at_end, at_semicolon, at_value, at_statement, at_body, at_close, at_open, at_name, call_made, call_close, token_is, token_again, name_again}
 
--- a token that is not the end, of the kind of its text
+-- a token that is not the end
 abbrev pub IsGood : TokenTree → Type 0
-IsGood t = (t.kind ≢ kind.End) × (t ≡ token_of (record { text = t.text; at = t.at }))
-
--- the end stands last and nowhere else, and has no text
-abbrev pub Ended : List TokenTree → Type 0
-Ended [] = ⊥
-Ended (t ∷ []) = (t.kind ≡ kind.End) × (t.text ≡ [])
-Ended (t ∷ u ∷ ts) = (t.kind ≢ kind.End) × Ended (u ∷ ts)
+IsGood t = t.kind ≢ kind.End
 
 pub good_append : (xs ys : List TokenTree) → AllByRecursion IsGood xs → AllByRecursion IsGood ys → AllByRecursion IsGood (xs ++ ys)
 good_append [] ys a b = b
@@ -48,15 +44,15 @@ pub record Stops {A X : Type 0} (R : List TokenTree → Result X Refusal) (shape
   pub token : TokenTree
   pub behind : List TokenTree
   pub parts : ts ≡ front ++ token ∷ behind
-  pub again : (more : List TokenTree) → R (front ++ token ∷ more) ≡ Err (syntax token.at)
+  pub again : (more : List TokenTree) → R (front ++ token ∷ more) ≡ Err (misfit token)
   pub fits : Fits R shape front
 
 pub data Went {A X : Type 0} (R : List TokenTree → Result X Refusal) (shape : A → List TokenTree → X) (ts : List TokenTree) : Type 0 where
-  Took : (a : A) → (rest : List TokenTree) → Takes R shape ts a rest → Ended rest → Went R shape ts
+  Took : (a : A) → (rest : List TokenTree) → Takes R shape ts a rest → EndsOnce rest → Went R shape ts
   Stopped : Stops R shape ts → Went R shape ts
 
 pub record Reader {A X : Type 0} (R : List TokenTree → Result X Refusal) (shape : A → List TokenTree → X) : Type 0 where
-  pub went : (ts : List TokenTree) → Ended ts → Went R shape ts
+  pub went : (ts : List TokenTree) → EndsOnce ts → Went R shape ts
   pub fits : Fits R shape []
 
 -- ---- one stage after another
@@ -133,11 +129,11 @@ at_once shape a = record {
 
 -- the first token is taken, or not
 took_first : {A X : Type 0} (R : List TokenTree → Result X Refusal) (shape : A → List TokenTree → X) (t : TokenTree) (behind : List TokenTree) (a : A)
-    → ((more : List TokenTree) → R (t ∷ more) ≡ Ok (shape a more)) → Ended behind → Went R shape (t ∷ behind)
+    → ((more : List TokenTree) → R (t ∷ more) ≡ Ok (shape a more)) → EndsOnce behind → Went R shape (t ∷ behind)
 took_first R shape t behind a again ended = Took a behind (record { taken = t ∷ []; parts = refl; again = again }) ended
 
 stopped_first : {A X : Type 0} (R : List TokenTree → Result X Refusal) (shape : A → List TokenTree → X) (t : TokenTree) (behind : List TokenTree)
-    → ((more : List TokenTree) → R (t ∷ more) ≡ Err (syntax t.at)) → Fits R shape [] → Went R shape (t ∷ behind)
+    → ((more : List TokenTree) → R (t ∷ more) ≡ Err (misfit t)) → Fits R shape [] → Went R shape (t ∷ behind)
 stopped_first R shape t behind again fits = Stopped (record { front = []; token = t; behind = behind; parts = refl; again = again; fits = fits })
 
 went_cons : {A X : Type 0} (R R' : List TokenTree → Result X Refusal) (shape : A → List TokenTree → X) (t : TokenTree) (behind : List TokenTree)
@@ -153,8 +149,8 @@ went_cons R R' shape t behind is (Stopped s) = Stopped (record {
   fits = record { more = s.fits.more; kinds = s.fits.kinds; value = s.fits.value; reads = λ rest. is (s.front ++ (s.fits.more ++ rest)) ∙ s.fits.reads rest };
 })
 
-ended_rest : (t : TokenTree) (behind : List TokenTree) → Ended (t ∷ behind) → t.kind ≢ kind.End → Ended behind
-ended_rest t [] ended no_end = absurd (no_end ended.0)
+ended_rest : (t : TokenTree) (behind : List TokenTree) → EndsOnce (t ∷ behind) → t.kind ≢ kind.End → EndsOnce behind
+ended_rest t [] ended no_end = absurd (no_end ended)
 ended_rest t (u ∷ us) ended no_end = ended.1
 
 -- ---- tokens
@@ -171,85 +167,63 @@ function_triple f r = (f.0, f.1, r)
 abbrev sample : TokenKind → List ℕ → TokenTree
 sample k text = record { kind = k; text = text; at = start }
 
-abbrev sample_as : List ℕ → TokenKind → TokenTree
-sample_as text k = record { kind = k; text = text_as k text; at = start }
-
-good_sample : (k : TokenKind) (text : List ℕ) → k ≢ kind.End → kind_of text ≡ k → text_as k text ≡ text → IsGood (sample k text)
-good_sample k text no_end has kept = (no_end, sym (ap (λ (x : List ℕ). sample k x) kept) ∙ sym (ap (sample_as text) has))
-
-miss : (text : List ℕ) (t : TokenTree) (more : List TokenTree) → bytes_eq t.text text ≡ false → token_at text (t ∷ more) ≡ Err (syntax t.at)
+miss : (k : TokenKind) (text : List ℕ) (t : TokenTree) (more : List TokenTree) → is_token k text t ≡ false → token_at k text (t ∷ more) ≡ Err (misfit t)
 unfolding token_at first_at
-miss text t more e = rw e refl
+miss k text t more e = rw e refl
 
-token_went : (text : List ℕ) (ts : List TokenTree) → bytes_eq [] text ≡ false → Ended ts → Fits (token_at text) pair [] → Went (token_at text) pair ts
-token_went text [] some ended fits = absurd ended
-token_went text (t ∷ []) some ended fits =
-    let e : bytes_eq t.text text ≡ false = rw ended.1 some in
-    stopped_first (token_at text) pair t [] (λ more. miss text t more e) fits
-token_went text (t ∷ u ∷ us) some ended fits =
-    elim (cases_Bool (bytes_eq t.text text)) [
-      | inl hit ↦ took_first (token_at text) pair t (u ∷ us) t (λ more. token_again text (t ∷ more) t more refl ((bytes_eq-Decides t.text text).0 hit)) ended.1
-      | inr missed ↦ stopped_first (token_at text) pair t (u ∷ us) (λ more. miss text t more missed) fits
+token_went : (k : TokenKind) (text : List ℕ) (ts : List TokenTree) → k ≢ kind.End → EndsOnce ts → Fits (token_at k text) pair [] → Went (token_at k text) pair ts
+token_went k text [] no_end ended fits = absurd ended
+token_went k text (t ∷ behind) no_end ended fits =
+    elim (cases_Bool (is_token k text t)) [
+      | inl hit ↦
+          let h = token_is k text t hit in
+          took_first (token_at k text) pair t behind t (λ more. token_again k text (t ∷ more) t more refl h.0 h.1) (ended_rest t behind ended (λ end. no_end (sym h.0 ∙ end)))
+      | inr missed ↦ stopped_first (token_at k text) pair t behind (λ more. miss k text t more missed) fits
     ]
 
-token_fits : (text : List ℕ) (k : TokenKind) → IsGood (sample k text) → Fits (token_at text) pair []
-token_fits text k good = record {
+token_fits : (k : TokenKind) (text : List ℕ) → k ≢ kind.End → Fits (token_at k text) pair []
+token_fits k text no_end = record {
   more = sample k text ∷ [];
-  kinds = (good, tt);
+  kinds = (no_end, tt);
   value = sample k text;
-  reads = λ rest. token_again text (sample k text ∷ rest) (sample k text) rest refl refl;
+  reads = λ rest. token_again k text (sample k text ∷ rest) (sample k text) rest refl refl refl;
 }
 
-token_reader : (text : List ℕ) (k : TokenKind) → bytes_eq [] text ≡ false → IsGood (sample k text) → Reader (token_at text) pair
-token_reader text k some good = record {
-  went = λ ts ended. token_went text ts some ended (token_fits text k good);
-  fits = token_fits text k good;
+token_reader : (k : TokenKind) (text : List ℕ) → k ≢ kind.End → Reader (token_at k text) pair
+token_reader k text no_end = record {
+  went = λ ts ended. token_went k text ts no_end ended (token_fits k text no_end);
+  fits = token_fits k text no_end;
 }
 
-int_reader : Reader (token_at (codes "int")) pair
-int_reader = token_reader (codes "int") kind.Word refl (good_sample kind.Word (codes "int") (λ e. cc) grammar_kinds.int refl)
+word_reader : (text : List ℕ) → Reader (word_at text) pair
+word_reader text = token_reader kind.Word text (λ e. cc)
 
-return_reader : Reader (token_at (codes "return")) pair
-return_reader = token_reader (codes "return") kind.Word refl (good_sample kind.Word (codes "return") (λ e. cc) grammar_kinds.return_word refl)
-
-open_round_reader : Reader (token_at (codes "(")) pair
-open_round_reader = token_reader (codes "(") kind.Punct refl (good_sample kind.Punct (codes "(") (λ e. cc) grammar_kinds.open_round refl)
-
-close_round_reader : Reader (token_at (codes ")")) pair
-close_round_reader = token_reader (codes ")") kind.Punct refl (good_sample kind.Punct (codes ")") (λ e. cc) grammar_kinds.close_round refl)
-
-open_curly_reader : Reader (token_at (codes "{")) pair
-open_curly_reader = token_reader (codes "{") kind.Punct refl (good_sample kind.Punct (codes "{") (λ e. cc) grammar_kinds.open_curly refl)
-
-close_curly_reader : Reader (token_at (codes "}")) pair
-close_curly_reader = token_reader (codes "}") kind.Punct refl (good_sample kind.Punct (codes "}") (λ e. cc) grammar_kinds.close_curly refl)
-
-semicolon_reader : Reader (token_at (codes ";")) pair
-semicolon_reader = token_reader (codes ";") kind.Punct refl (good_sample kind.Punct (codes ";") (λ e. cc) grammar_kinds.semicolon refl)
+punct_reader : (text : List ℕ) → Reader (punct_at text) pair
+punct_reader text = token_reader kind.Punct text (λ e. cc)
 
 -- ---- names
 
-name_refuses : (k : TokenKind) (t : TokenTree) (more : List TokenTree) → t.kind ≡ k → name_of k t more ≡ Err (syntax t.at) → name_at (t ∷ more) ≡ Err (syntax t.at)
+name_refuses : (k : TokenKind) (t : TokenTree) (more : List TokenTree) → t.kind ≡ k → name_of k t more ≡ Err (misfit t) → name_at (t ∷ more) ≡ Err (misfit t)
 unfolding name_at first_at
 name_refuses k t more e h = ap (λ (j : TokenKind). name_of j t more) e ∙ h
 
-name_by_kind : (k : TokenKind) (t : TokenTree) (behind : List TokenTree) → t.kind ≡ k → Ended (t ∷ behind) → Fits name_at pair [] → Went name_at pair (t ∷ behind)
+name_by_kind : (k : TokenKind) (t : TokenTree) (behind : List TokenTree) → t.kind ≡ k → EndsOnce (t ∷ behind) → Fits name_at pair [] → Went name_at pair (t ∷ behind)
 name_by_kind kind.Name t behind e ended fits = took_first name_at pair t behind t (λ more. name_again (t ∷ more) t more refl e) (ended_rest t behind ended (λ end. cc))
 name_by_kind kind.Word t behind e ended fits = stopped_first name_at pair t behind (λ more. name_refuses kind.Word t more e refl) fits
 name_by_kind kind.Int t behind e ended fits = stopped_first name_at pair t behind (λ more. name_refuses kind.Int t more e refl) fits
 name_by_kind kind.Punct t behind e ended fits = stopped_first name_at pair t behind (λ more. name_refuses kind.Punct t more e refl) fits
 name_by_kind kind.End t behind e ended fits = stopped_first name_at pair t behind (λ more. name_refuses kind.End t more e refl) fits
-name_by_kind kind.Stray t behind e ended fits = stopped_first name_at pair t behind (λ more. name_refuses kind.Stray t more e refl) fits
+name_by_kind kind.Str t behind e ended fits = stopped_first name_at pair t behind (λ more. name_refuses kind.Str t more e refl) fits
 
 name_fits : Fits name_at pair []
 name_fits = record {
   more = sample kind.Name (codes "a") ∷ [];
-  kinds = (good_sample kind.Name (codes "a") (λ e. cc) grammar_kinds.name refl, tt);
+  kinds = ((λ e. cc), tt);
   value = sample kind.Name (codes "a");
   reads = λ rest. name_again (sample kind.Name (codes "a") ∷ rest) (sample kind.Name (codes "a")) rest refl refl;
 }
 
-name_went : (ts : List TokenTree) → Ended ts → Went name_at pair ts
+name_went : (ts : List TokenTree) → EndsOnce ts → Went name_at pair ts
 name_went [] ended = absurd ended
 name_went (t ∷ behind) ended = name_by_kind t.kind t behind refl ended name_fits
 
@@ -261,33 +235,45 @@ name_reader = record { went = name_went; fits = name_fits }
 call_reader : (n : ℕ) (t : TokenTree) → Reader (call_at n t) triple
 unfolding call_at
 call_reader n t =
-    then (token_at (codes "(")) (call_close n t) pair triple open_round_reader
-    (λ a. then (token_at (codes ")")) (call_made n t) pair triple close_round_reader
+    then (punct_at (codes "(")) (call_close n t) pair triple (punct_reader (codes "("))
+    (λ a. then (punct_at (codes ")")) (call_made n t) pair triple (punct_reader (codes ")"))
     (λ b. at_once triple (CallTree (record { node = n + 1; at = t.at }) (record { node = n; at = t.at }) t.text, n + 2)))
 
-value_is : (n : ℕ) (k : TokenKind) (t : TokenTree) (more : List TokenTree) → t.kind ≡ k → value_at n (t ∷ more) ≡ value_of n k t more
+value_is : (n : ℕ) (k : TokenKind) (t : TokenTree) (more : List TokenTree) → t.kind ≡ k → value_at n (t ∷ more) ≡ value_by n k t more
 unfolding value_at first_at
 value_is n k t more e = rw e refl
 
-value_by_kind : (n : ℕ) (k : TokenKind) (t : TokenTree) (behind : List TokenTree) → t.kind ≡ k → Ended (t ∷ behind) → Fits (value_at n) triple [] → Went (value_at n) triple (t ∷ behind)
-value_by_kind n kind.Int t behind e ended fits =
-    took_first (value_at n) triple t behind (LiteralTree (record { node = n; at = t.at }) (number_of t.text), n + 1) (λ more. value_is n kind.Int t more e) (ended_rest t behind ended (λ end. cc))
+value_is_literal : (n : ℕ) (o : Option ℕ) (t : TokenTree) (more : List TokenTree) → t.kind ≡ kind.Int → int_value t.text ≡ o → value_at n (t ∷ more) ≡ literal_of n o t more
+unfolding value_at first_at
+value_is_literal n o t more e says = rw (e, says) refl
+
+literal_went : (n : ℕ) (o : Option ℕ) (t : TokenTree) (behind : List TokenTree) → t.kind ≡ kind.Int → int_value t.text ≡ o → EndsOnce (t ∷ behind) → Fits (value_at n) triple [] → Went (value_at n) triple (t ∷ behind)
+literal_went n (Some value) t behind e says ended fits =
+    took_first (value_at n) triple t behind (LiteralTree (record { node = n; at = t.at }) value, n + 1) (λ more. value_is_literal n (Some value) t more e says) (ended_rest t behind ended (λ end. cc))
+literal_went n None t behind e says ended fits = stopped_first (value_at n) triple t behind (λ more. value_is_literal n None t more e says) fits
+
+value_by_kind : (n : ℕ) (k : TokenKind) (t : TokenTree) (behind : List TokenTree) → t.kind ≡ k → EndsOnce (t ∷ behind) → Fits (value_at n) triple [] → Went (value_at n) triple (t ∷ behind)
+value_by_kind n kind.Int t behind e ended fits = literal_went n (int_value t.text) t behind e refl ended fits
 value_by_kind n kind.Name t behind e ended fits =
     went_cons (value_at n) (call_at n t) triple t behind (λ more. value_is n kind.Name t more e) ((call_reader n t).went behind (ended_rest t behind ended (λ end. cc)))
 value_by_kind n kind.Word t behind e ended fits = stopped_first (value_at n) triple t behind (λ more. value_is n kind.Word t more e) fits
 value_by_kind n kind.Punct t behind e ended fits = stopped_first (value_at n) triple t behind (λ more. value_is n kind.Punct t more e) fits
 value_by_kind n kind.End t behind e ended fits = stopped_first (value_at n) triple t behind (λ more. value_is n kind.End t more e) fits
-value_by_kind n kind.Stray t behind e ended fits = stopped_first (value_at n) triple t behind (λ more. value_is n kind.Stray t more e) fits
+value_by_kind n kind.Str t behind e ended fits = stopped_first (value_at n) triple t behind (λ more. value_is n kind.Str t more e) fits
+
+zero_is : int_value (codes "0") ≡ Some 0
+unfolding int_value type_of value_of digits_of suffix_of is_hexadecimal is_unsigned is_long has_word unsigned_suffixes long_suffixes unsigned_long_suffixes is_digit
+zero_is = refl
 
 value_fits : (n : ℕ) → Fits (value_at n) triple []
 value_fits n = record {
   more = sample kind.Int (codes "0") ∷ [];
-  kinds = (good_sample kind.Int (codes "0") (λ e. cc) grammar_kinds.literal refl, tt);
-  value = (LiteralTree (record { node = n; at = start }) (number_of (codes "0")), n + 1);
-  reads = λ rest. value_is n kind.Int (sample kind.Int (codes "0")) rest refl;
+  kinds = ((λ e. cc), tt);
+  value = (LiteralTree (record { node = n; at = start }) 0, n + 1);
+  reads = λ rest. value_is_literal n (Some 0) (sample kind.Int (codes "0")) rest refl zero_is;
 }
 
-value_went : (n : ℕ) (ts : List TokenTree) → Ended ts → Went (value_at n) triple ts
+value_went : (n : ℕ) (ts : List TokenTree) → EndsOnce ts → Went (value_at n) triple ts
 value_went n [] ended = absurd ended
 value_went n (t ∷ behind) ended = value_by_kind n t.kind t behind refl ended (value_fits n)
 
@@ -299,15 +285,15 @@ value_reader n = record { went = value_went n; fits = value_fits n }
 pub function_reader : (n : ℕ) → Reader (function_at n) function_triple
 unfolding function_at
 function_reader n =
-    then (token_at (codes "int")) (at_name n) pair function_triple int_reader
+    then (word_at (codes "int")) (at_name n) pair function_triple (word_reader (codes "int"))
     (λ a. then name_at (at_open n (pair a [])) pair function_triple name_reader
-    (λ b. then (token_at (codes "(")) (at_close n (pair a []) (pair b [])) pair function_triple open_round_reader
-    (λ c. then (token_at (codes ")")) (at_body n (pair a []) (pair b [])) pair function_triple close_round_reader
-    (λ d. then (token_at (codes "{")) (at_statement n (pair a []) (pair b [])) pair function_triple open_curly_reader
-    (λ g. then (token_at (codes "return")) (at_value n (pair a []) (pair b []) (pair g [])) pair function_triple return_reader
+    (λ b. then (punct_at (codes "(")) (at_close n (pair a []) (pair b [])) pair function_triple (punct_reader (codes "("))
+    (λ c. then (punct_at (codes ")")) (at_body n (pair a []) (pair b [])) pair function_triple (punct_reader (codes ")"))
+    (λ d. then (punct_at (codes "{")) (at_statement n (pair a []) (pair b [])) pair function_triple (punct_reader (codes "{"))
+    (λ g. then (word_at (codes "return")) (at_value n (pair a []) (pair b []) (pair g [])) pair function_triple (word_reader (codes "return"))
     (λ s. then (value_at (n + 1)) (at_semicolon n (pair a []) (pair b []) (pair g []) (pair s [])) triple function_triple (value_reader (n + 1))
-    (λ v. then (token_at (codes ";")) (at_end n (pair a []) (pair b []) (pair g []) (pair s []) (triple v [])) pair function_triple semicolon_reader
-    (λ h. then (token_at (codes "}")) (made n (pair a []) (pair b []) (pair g []) (pair s []) (triple v [])) pair function_triple close_curly_reader
+    (λ v. then (punct_at (codes ";")) (at_end n (pair a []) (pair b []) (pair g []) (pair s []) (triple v [])) pair function_triple (punct_reader (codes ";"))
+    (λ h. then (punct_at (codes "}")) (made n (pair a []) (pair b []) (pair g []) (pair s []) (triple v [])) pair function_triple (punct_reader (codes "}"))
     (λ i. at_once function_triple (
       record {
         mark = record { node = v.1 + 2; at = b.at };

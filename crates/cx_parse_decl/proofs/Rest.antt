@@ -8,8 +8,11 @@ use Rattle.cx_lexer.specs.declared.token.TokenKind.{TokenKind}
 use Rattle.cx_lexer.specs.declared.token.TokenKind.TheVariants as kind
 use Rattle.cx_lexer.specs.contracts.token.TokenKind.{the_type}
 use denote.Enum.Bare.{sameb}
-use Rattle.cx_lexer.specs.Tokens.{TokenTree, token_tree, is_end, start}
-use Rattle.cx_parse_decl.specs.Grammar.{first_at, syntax}
+use Rattle.cx_lexer.specs.Reading.{is_end}
+use Rattle.cx_lexer.specs.Places.{start}
+use Rattle.cx_lexer.specs.Tokens.{TokenTree, token_tree, end_at}
+use Rattle.cx_parse_decl.specs.Fault.{misfit}
+use Rattle.cx_parse_decl.specs.Grammar.{first_at}
 use Rattle.cx_parse_decl.specs.Rest.{rest_at}
 
 at_suc : (ts : List Token) (i : ℕ) (t : Token) → slice_get ts i ≡ Some t → rest_at i ts ≡ token_tree t ∷ rest_at (suc i) ts
@@ -32,9 +35,9 @@ first_some ts i t e = rw (rest_some ts i t e) refl
 pub rest_none : (ts : List Token) (i : ℕ) → length ts ≤ i → rest_at i ts ≡ []
 rest_none ts i le = drop_all i (map token_tree ts) (rw length-map le)
 
-pub first_none : (ts : List Token) (i : ℕ) → length ts ≤ i → first_at (rest_at i ts) ≡ Err (syntax start)
+pub first_none : (ts : List Token) (i : ℕ) (t : TokenTree) → length ts ≤ i → t ≡ end_at start → first_at (rest_at i ts) ≡ Err (misfit t)
 unfolding first_at
-first_none ts i le = rw (rest_none ts i le) refl
+first_none ts i t le is = rw (rest_none ts i le, is) refl
 
 -- what holds of all tokens holds of one
 pub holds_at : (P : TokenTree → Type 0) (ts : List Token) (i : ℕ) (t : Token) → AllByRecursion P (rest_at 0 ts) → slice_get ts i ≡ Some t → P (token_tree t)
@@ -51,4 +54,4 @@ same_end kind.Word = refl
 same_end kind.Int = refl
 same_end kind.Punct = refl
 same_end kind.End = refl
-same_end kind.Stray = refl
+same_end kind.Str = refl

@@ -1,13 +1,17 @@
 -- What one step of reading takes, and what it refuses.
-use Rattle.std.proofs.Common.{◌≡◌, ℕ, ◌+◌, Bool, true, false, cond, List, [], ◌∷◌, codes, Result, Ok, Err, refl, ap, subst}
+use Rattle.std.proofs.Common.{◌≡◌, ℕ, ◌+◌, Bool, true, false, cond, List, [], ◌∷◌, codes, Result, Ok, Err, refl, subst}
 use Rattle.std.specs.Str.{bytes_eq}
+use Rattle.std.proofs.lemmas.Bool.{and_parts}
 use Rattle.std.proofs.lemmas.Slice.Eq.{bytes_eq-Decides}
 use Rattle.cx_base.specs.Refusal.{Refusal, ◌>>=◌}
 use Rattle.cx_lexer.specs.declared.token.TokenKind.{TokenKind}
 use Rattle.cx_lexer.specs.declared.token.TokenKind.TheVariants as kind
 use Rattle.cx_lexer.specs.Tokens.{TokenTree}
 use Rattle.cx_tree.specs.UnitTree.{ExprTree, CallTree, FunctionTree}
-use Rattle.cx_parse_decl.specs.Grammar.{syntax, first_at, token_at, name_of, name_at, value_at}
+use Rattle.cx_lexer.specs.contracts.token.TokenKind.{the_type}
+use denote.Enum.Bare.{same_true, true_same}
+use Rattle.cx_parse_decl.specs.Fault.{misfit}
+use Rattle.cx_parse_decl.specs.Grammar.{first_at, same_kind, is_token, token_at, word_at, punct_at, name_of, name_at, value_at}
 
 -- a token and those behind it; a value or a function, the number of the next node, and the tokens behind it
 abbrev pub Step : Type 0
@@ -35,25 +39,25 @@ made n type name body statement value end = Ok (
 )
 
 abbrev pub at_end : ℕ → Step → Step → Step → Step → ValueStep → Step → Result FunctionStep Refusal
-at_end n type name body statement value semicolon = token_at (codes "}") semicolon.1 >>= made n type name body statement value
+at_end n type name body statement value semicolon = punct_at (codes "}") semicolon.1 >>= made n type name body statement value
 
 abbrev pub at_semicolon : ℕ → Step → Step → Step → Step → ValueStep → Result FunctionStep Refusal
-at_semicolon n type name body statement value = token_at (codes ";") value.2 >>= at_end n type name body statement value
+at_semicolon n type name body statement value = punct_at (codes ";") value.2 >>= at_end n type name body statement value
 
 abbrev pub at_value : ℕ → Step → Step → Step → Step → Result FunctionStep Refusal
 at_value n type name body statement = value_at (n + 1) statement.1 >>= at_semicolon n type name body statement
 
 abbrev pub at_statement : ℕ → Step → Step → Step → Result FunctionStep Refusal
-at_statement n type name body = token_at (codes "return") body.1 >>= at_value n type name body
+at_statement n type name body = word_at (codes "return") body.1 >>= at_value n type name body
 
 abbrev pub at_body : ℕ → Step → Step → Step → Result FunctionStep Refusal
-at_body n type name close_round = token_at (codes "{") close_round.1 >>= at_statement n type name
+at_body n type name close_round = punct_at (codes "{") close_round.1 >>= at_statement n type name
 
 abbrev pub at_close : ℕ → Step → Step → Step → Result FunctionStep Refusal
-at_close n type name open_round = token_at (codes ")") open_round.1 >>= at_body n type name
+at_close n type name open_round = punct_at (codes ")") open_round.1 >>= at_body n type name
 
 abbrev pub at_open : ℕ → Step → Step → Result FunctionStep Refusal
-at_open n type name = token_at (codes "(") name.1 >>= at_close n type name
+at_open n type name = punct_at (codes "(") name.1 >>= at_close n type name
 
 abbrev pub at_name : ℕ → Step → Result FunctionStep Refusal
 at_name n type = name_at type.1 >>= at_open n type
@@ -62,7 +66,7 @@ abbrev pub call_made : ℕ → TokenTree → Step → Result ValueStep Refusal
 call_made n name close_round = Ok (CallTree (record { node = n + 1; at = name.at }) (record { node = n; at = name.at }) name.text, n + 2, close_round.1)
 
 abbrev pub call_close : ℕ → TokenTree → Step → Result ValueStep Refusal
-call_close n name open_round = token_at (codes ")") open_round.1 >>= call_made n name
+call_close n name open_round = punct_at (codes ")") open_round.1 >>= call_made n name
 
 -- the value of a stage that did not refuse
 pub bind_ok : {A B : Type 0} (r : Result A Refusal) (f : A → Result B Refusal) (y : B) → (r >>= f) ≡ Ok y → (x : A) × (r ≡ Ok x) × (f x ≡ Ok y)
@@ -79,40 +83,53 @@ guard_ok : {A : Type 0} (b : Bool) (r : Refusal) (x y : A) → cond b (Ok x) (Er
 guard_ok true r x y e = (refl, cc)
 guard_ok false r x y e = absurd cc
 
--- a step that took a token
-pub record Took (ts : List TokenTree) (x : Step) : Type 0 where
+-- a token of a kind and text
+pub token_is : (k : TokenKind) (text : List ℕ) (t : TokenTree) → is_token k text t ≡ true → (t.kind ≡ k) × (t.text ≡ text)
+unfolding is_token
+token_is k text t e =
+    let p = and_parts (same_kind t.kind k) (bytes_eq t.text text) e in
+    (same_true the_type tt t.kind k p.0, (bytes_eq-Decides t.text text).0 p.1)
+
+pub is_the_token : (k : TokenKind) (text : List ℕ) (t : TokenTree) → t.kind ≡ k → t.text ≡ text → is_token k text t ≡ true
+unfolding is_token
+is_the_token k text t is said = rw (true_same the_type t.kind k is, (bytes_eq-Decides t.text text).1 said) refl
+
+-- a step that took a token of a kind and text
+pub record Found (k : TokenKind) (text : List ℕ) (ts : List TokenTree) (x : Step) : Type 0 where
   pub parts : ts ≡ x.0 ∷ x.1
+  pub kind : x.0.kind ≡ k
+  pub said : x.0.text ≡ text
 
-took : (t : TokenTree) (ts : List TokenTree) (x : Step) → (t, ts) ≡ x → Took (t ∷ ts) x
-took t ts x e = record { parts = ap (λ (y : Step). y.0 ∷ y.1) e }
+found : (k : TokenKind) (text : List ℕ) (t : TokenTree) (ts : List TokenTree) (x : Step) → (t, ts) ≡ x → t.kind ≡ k → t.text ≡ text → Found k text (t ∷ ts) x
+found k text t ts x e is said = subst (λ (y : Step). Found k text (t ∷ ts) y) e (record { parts = refl; kind = is; said = said })
 
-pub token_took : (text : List ℕ) (ts : List TokenTree) (x : Step) → token_at text ts ≡ Ok x → Took ts x × (x.0.text ≡ text)
+pub token_found : (k : TokenKind) (text : List ℕ) (ts : List TokenTree) (x : Step) → token_at k text ts ≡ Ok x → Found k text ts x
 unfolding token_at first_at
-token_took text [] x e = absurd cc
-token_took text (t ∷ ts) x e =
-    let g = guard_ok (bytes_eq t.text text) (syntax t.at) (t, ts) x e in
-    let said : t.text ≡ text = (bytes_eq-Decides t.text text).0 g.0 in
-    (took t ts x g.1, subst (λ (y : Step). y.0.text ≡ text) g.1 said)
+token_found k text [] x e = absurd cc
+token_found k text (t ∷ ts) x e =
+    let g = guard_ok (is_token k text t) (misfit t) (t, ts) x e in
+    let h = token_is k text t g.0 in
+    found k text t ts x g.1 h.0 h.1
 
-name_of_took : (k : TokenKind) (t : TokenTree) (ts : List TokenTree) (x : Step) → name_of k t ts ≡ Ok x → (k ≡ kind.Name) × ((t, ts) ≡ x)
-name_of_took kind.Name t ts x e = (refl, ok_is (t, ts) x e)
-name_of_took kind.Word t ts x e = absurd cc
-name_of_took kind.Int t ts x e = absurd cc
-name_of_took kind.Punct t ts x e = absurd cc
-name_of_took kind.End t ts x e = absurd cc
-name_of_took kind.Stray t ts x e = absurd cc
+name_of_found : (k : TokenKind) (t : TokenTree) (ts : List TokenTree) (x : Step) → name_of k t ts ≡ Ok x → (k ≡ kind.Name) × ((t, ts) ≡ x)
+name_of_found kind.Name t ts x e = (refl, ok_is (t, ts) x e)
+name_of_found kind.Word t ts x e = absurd cc
+name_of_found kind.Int t ts x e = absurd cc
+name_of_found kind.Str t ts x e = absurd cc
+name_of_found kind.Punct t ts x e = absurd cc
+name_of_found kind.End t ts x e = absurd cc
 
-pub name_took : (ts : List TokenTree) (x : Step) → name_at ts ≡ Ok x → Took ts x × (x.0.kind ≡ kind.Name)
+pub name_found : (ts : List TokenTree) (x : Step) → name_at ts ≡ Ok x → Found kind.Name x.0.text ts x
 unfolding name_at first_at
-name_took [] x e = absurd cc
-name_took (t ∷ ts) x e =
-    let g = name_of_took t.kind t ts x e in
-    (took t ts x g.1, subst (λ (y : Step). y.0.kind ≡ kind.Name) g.1 g.0)
+name_found [] x e = absurd cc
+name_found (t ∷ ts) x e =
+    let g = name_of_found t.kind t ts x e in
+    subst (λ (y : Step). Found kind.Name y.0.text (t ∷ ts) y) g.1 (record { parts = refl; kind = g.0; said = refl })
 
 -- what is there is taken
-pub token_again : (text : List ℕ) (ts : List TokenTree) (t : TokenTree) (behind : List TokenTree) → ts ≡ t ∷ behind → t.text ≡ text → token_at text ts ≡ Ok (t, behind)
+pub token_again : (k : TokenKind) (text : List ℕ) (ts : List TokenTree) (t : TokenTree) (behind : List TokenTree) → ts ≡ t ∷ behind → t.kind ≡ k → t.text ≡ text → token_at k text ts ≡ Ok (t, behind)
 unfolding token_at first_at
-token_again text ts t behind parts said = rw (parts, (bytes_eq-Decides t.text text).1 said) refl
+token_again k text ts t behind parts is said = rw (parts, is_the_token k text t is said) refl
 
 pub name_again : (ts : List TokenTree) (t : TokenTree) (behind : List TokenTree) → ts ≡ t ∷ behind → t.kind ≡ kind.Name → name_at ts ≡ Ok (t, behind)
 unfolding name_at first_at

@@ -2,39 +2,60 @@
 --
 --   unit     = { function } End
 --   function = "int" Name "(" ")" "{" "return" value ";" "}"
---   value    = Int | Name "(" ")"
+--   value    = Int | Name "(" ")"                                 (the Int has type int)
 --
 -- What is no unit is refused at the first token that does not fit. A definition of a part takes the tokens from the
 -- part's first one on and gives the part and the tokens behind it; one that numbers nodes takes the first number too.
-use Rattle.std.specs.Prelude.{ℕ, zero, suc, ◌+◌, List, [], ◌∷◌, length, codes, Result, Ok, Err, if◌then◌else◌}
+use Rattle.std.specs.Prelude.{ℕ, zero, suc, ◌+◌, Bool, ◌&&◌, List, [], ◌∷◌, length, codes, Option, Some, None, Result, Ok, Err, if◌then◌else◌}
 use Rattle.std.specs.Str.{bytes_eq}
-use Rattle.cx_base.specs.Refusal.{Refusal, Refused, ◌>>=◌}
-use Rattle.cx_base.specs.declared.kind.Kind.TheVariants as fault
-use Rattle.cx_base.specs.declared.place.Place.{Place}
+use Rattle.cx_base.specs.Refusal.{Refusal, ◌>>=◌}
+use Rattle.cx_base.specs.declared.value.Scalar.{Scalar}
+use Rattle.cx_base.specs.declared.value.Scalar.TheVariants as scalar
 use Rattle.cx_lexer.specs.declared.token.TokenKind.{TokenKind}
 use Rattle.cx_lexer.specs.declared.token.TokenKind.TheVariants as kind
-use Rattle.cx_lexer.specs.Tokens.{TokenTree, is_end, start, number_of}
+use Rattle.cx_lexer.specs.contracts.token.TokenKind.{the_type}
+use denote.Enum.Bare.{sameb}
+use Rattle.cx_lexer.specs.Literals.{value_of, type_of}
+use Rattle.cx_lexer.specs.Places.{start}
+use Rattle.cx_lexer.specs.Reading.{is_end}
+use Rattle.cx_lexer.specs.Tokens.{TokenTree, end_at}
 use Rattle.cx_tree.specs.UnitTree.{ExprTree, LiteralTree, CallTree, FunctionTree, UnitTree}
+use Rattle.cx_parse_decl.specs.Fault.{misfit}
 
--- The grammar fault at a place.
-abbrev pub syntax : Place → Refusal
-syntax at = Refused (record { kind = fault.Syntax; at = at; also = []; chain = [] })
+-- The fault where tokens run out, which they do nowhere where the end stands last: as if the end stood at the start.
+abbrev pub ran_out : Refusal
+ran_out = misfit (end_at start)
 
 -- The first token, and the tokens behind it.
 unfoldable pub first_at : List TokenTree → Result (TokenTree × List TokenTree) Refusal
-first_at [] = Err (syntax start)
+first_at [] = Err ran_out
 first_at (t ∷ ts) = Ok (t, ts)
 
--- The token of this text, and the tokens behind it.
-unfoldable pub token_at : List ℕ → List TokenTree → Result (TokenTree × List TokenTree) Refusal
-token_at text ts = do
+-- `==` on kinds
+abbrev pub same_kind : TokenKind → TokenKind → Bool
+same_kind = sameb the_type
+
+-- whether a token is of this kind and text
+unfoldable pub is_token : TokenKind → List ℕ → TokenTree → Bool
+is_token k text t = same_kind t.kind k && bytes_eq t.text text
+
+-- The token of this kind and text, and the tokens behind it.
+unfoldable pub token_at : TokenKind → List ℕ → List TokenTree → Result (TokenTree × List TokenTree) Refusal
+token_at k text ts = do
   first ← first_at ts
-  if bytes_eq first.0.text text then Ok first else Err (syntax first.0.at)
+  if is_token k text first.0 then Ok first else Err (misfit first.0)
+
+-- A reserved word, and a punctuator.
+abbrev pub word_at : List ℕ → List TokenTree → Result (TokenTree × List TokenTree) Refusal
+word_at text ts = token_at kind.Word text ts
+
+abbrev pub punct_at : List ℕ → List TokenTree → Result (TokenTree × List TokenTree) Refusal
+punct_at text ts = token_at kind.Punct text ts
 
 -- A name, and the tokens behind it.
 abbrev pub name_of : TokenKind → TokenTree → List TokenTree → Result (TokenTree × List TokenTree) Refusal
 name_of kind.Name t ts = Ok (t, ts)
-name_of other t ts = Err (syntax t.at)
+name_of other t ts = Err (misfit t)
 
 unfoldable pub name_at : List TokenTree → Result (TokenTree × List TokenTree) Refusal
 name_at ts = do
@@ -44,33 +65,46 @@ name_at ts = do
 -- The call of a name from the n-th node on, the number of the next node, and the tokens behind it.
 unfoldable pub call_at : ℕ → TokenTree → List TokenTree → Result (ExprTree × ℕ × List TokenTree) Refusal
 call_at n name ts = do
-  open_round ← token_at (codes "(") ts
-  close_round ← token_at (codes ")") open_round.1
+  open_round ← punct_at (codes "(") ts
+  close_round ← punct_at (codes ")") open_round.1
   Ok (CallTree (record { node = n + 1; at = name.at }) (record { node = n; at = name.at }) name.text, n + 2, close_round.1)
 
+-- The value of a literal, where its type is int.
+abbrev pub int_of : Option Scalar → ℕ → Option ℕ
+int_of (Some scalar.Int) value = Some value
+int_of other value = None
+
+unfoldable pub int_value : List ℕ → Option ℕ
+int_value text = int_of (type_of text) (value_of text)
+
+-- A literal of type int, the number of the next node, and the tokens behind it.
+abbrev pub literal_of : ℕ → Option ℕ → TokenTree → List TokenTree → Result (ExprTree × ℕ × List TokenTree) Refusal
+literal_of n (Some value) t ts = Ok (LiteralTree (record { node = n; at = t.at }) value, n + 1, ts)
+literal_of n None t ts = Err (misfit t)
+
 -- A value from the n-th node on, the number of the next node, and the tokens behind it.
-abbrev pub value_of : ℕ → TokenKind → TokenTree → List TokenTree → Result (ExprTree × ℕ × List TokenTree) Refusal
-value_of n kind.Int t ts = Ok (LiteralTree (record { node = n; at = t.at }) (number_of t.text), n + 1, ts)
-value_of n kind.Name t ts = call_at n t ts
-value_of n other t ts = Err (syntax t.at)
+abbrev pub value_by : ℕ → TokenKind → TokenTree → List TokenTree → Result (ExprTree × ℕ × List TokenTree) Refusal
+value_by n kind.Int t ts = literal_of n (int_value t.text) t ts
+value_by n kind.Name t ts = call_at n t ts
+value_by n other t ts = Err (misfit t)
 
 unfoldable pub value_at : ℕ → List TokenTree → Result (ExprTree × ℕ × List TokenTree) Refusal
 value_at n ts = do
   first ← first_at ts
-  value_of n first.0.kind first.0 first.1
+  value_by n first.0.kind first.0 first.1
 
 -- A function from the n-th node on, the number of the next node, and the tokens behind it.
 unfoldable pub function_at : ℕ → List TokenTree → Result (FunctionTree × ℕ × List TokenTree) Refusal
 function_at n ts = do
-  type ← token_at (codes "int") ts
+  type ← word_at (codes "int") ts
   name ← name_at type.1
-  open_round ← token_at (codes "(") name.1
-  close_round ← token_at (codes ")") open_round.1
-  body ← token_at (codes "{") close_round.1
-  statement ← token_at (codes "return") body.1
+  open_round ← punct_at (codes "(") name.1
+  close_round ← punct_at (codes ")") open_round.1
+  body ← punct_at (codes "{") close_round.1
+  statement ← word_at (codes "return") body.1
   value ← value_at (n + 1) statement.1
-  semicolon ← token_at (codes ";") value.2
-  end ← token_at (codes "}") semicolon.1
+  semicolon ← punct_at (codes ";") value.2
+  end ← punct_at (codes "}") semicolon.1
   Ok (
     record {
       mark = record { node = value.1 + 2; at = name.0.at };
@@ -86,8 +120,8 @@ function_at n ts = do
 
 -- The functions from the n-th node on, up to the end. There are at most as many as there are tokens.
 unfoldable pub functions_at : ℕ → ℕ → List TokenTree → Result UnitTree Refusal
-functions_at zero n ts = Err (syntax start)
-functions_at (suc most) n [] = Err (syntax start)
+functions_at zero n ts = Err ran_out
+functions_at (suc most) n [] = Err ran_out
 functions_at (suc most) n (t ∷ ts) =
     if is_end t.kind then Ok [] else do
       first ← function_at n (t ∷ ts)

@@ -1,7 +1,8 @@
 -- What of a unit's tokens is still to be read.
 use Rattle.std.specs.Prelude.{ℕ, Bool, false, List, [], ◌∷◌, map, drop}
 use Rattle.cx_lexer.specs.declared.token.Token.{Token}
-use Rattle.cx_lexer.specs.Tokens.{TokenTree, token_tree, is_end}
+use Rattle.cx_lexer.specs.Reading.{is_end}
+use Rattle.cx_lexer.specs.Tokens.{TokenTree, token_tree}
 
 -- The tokens from an index on.
 abbrev pub rest_at : ℕ → List Token → List TokenTree

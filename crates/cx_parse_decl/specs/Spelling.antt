@@ -1,30 +1,46 @@
 -- What it is for tokens to spell a unit. No reading is in it.
-use Rattle.std.specs.Prelude.{◌≡◌, ◌≢◌, ◌≤◌, ℕ, List, [], ◌∷◌, ◌++◌, codes, decimal, Option, Some, None, IfSome}
+use Rattle.std.specs.Prelude.{◌≡◌, ◌≤◌, ℕ, List, [], ◌∷◌, ◌++◌, codes, Option, Some, None, IfSome}
 use Rattle.std.specs.List.{flat_map, AllByRecursion}
+use Rattle.cx_base.specs.Refusal.{Refusal}
 use Rattle.cx_base.specs.declared.place.Place.{Place}
+use Rattle.cx_base.specs.declared.value.Scalar.TheVariants as scalar
 use Rattle.cx_lexer.specs.declared.token.TokenKind.{TokenKind}
 use Rattle.cx_lexer.specs.declared.token.TokenKind.TheVariants as kind
-use Rattle.cx_lexer.specs.Tokens.{TokenTree, token_of}
+use Rattle.cx_lexer.specs.Literals.{value_of, type_of}
+use Rattle.cx_lexer.specs.Tokens.{TokenTree}
 use Rattle.cx_tree.specs.UnitTree.{ExprTree, LiteralTree, CallTree, FunctionTree, UnitTree, unit_nodes, IsNumberedFrom}
+use Rattle.cx_parse_decl.specs.Fault.{misfit}
+
+-- A text that a tree wants: these bytes, or those of any literal of type int that has a value.
+pub data Wording : Type 0 where
+  Exactly : (text : List ℕ) → Wording
+  Saying : (value : ℕ) → Wording
+
+abbrev pub IsWorded : Wording → List ℕ → Type 0
+IsWorded (Exactly text) t = t ≡ text
+IsWorded (Saying value) t = (type_of t ≡ Some scalar.Int) × (value_of t ≡ value)
 
 -- A token that a tree wants: its kind and text, and its place where the tree has it.
 pub record Wanted : Type 0 where
   pub kind : TokenKind
-  pub text : List ℕ
+  pub text : Wording
   pub at : Option Place
 
 abbrev pub word : List ℕ → Place → Wanted
-word text at = record { kind = kind.Word; text = text; at = Some at }
+word text at = record { kind = kind.Word; text = Exactly text; at = Some at }
 
 abbrev pub punct : List ℕ → Option Place → Wanted
-punct text at = record { kind = kind.Punct; text = text; at = at }
+punct text at = record { kind = kind.Punct; text = Exactly text; at = at }
 
 abbrev pub named : List ℕ → Place → Wanted
-named text at = record { kind = kind.Name; text = text; at = Some at }
+named text at = record { kind = kind.Name; text = Exactly text; at = Some at }
 
--- A value is a literal, which says its number in decimal, or a name and `()`.
+abbrev pub number : ℕ → Place → Wanted
+number value at = record { kind = kind.Int; text = Saying value; at = Some at }
+
+-- A value is a literal, which says its number, or a name and `()`.
 abbrev pub value_spelling : ExprTree → List Wanted
-value_spelling (LiteralTree mark value) = record { kind = kind.Int; text = decimal value; at = Some mark.at } ∷ []
+value_spelling (LiteralTree mark value) = number value mark.at ∷ []
 value_spelling (CallTree mark callee name) = named name callee.at ∷ punct (codes "(") None ∷ punct (codes ")") None ∷ []
 
 -- int NAME ( ) { return VALUE ; }
@@ -40,7 +56,7 @@ unit_spelling u = flat_map function_spelling u
 -- a token is the one that is wanted
 pub record IsWanted (w : Wanted) (t : TokenTree) : Type 0 where
   pub kind : t.kind ≡ w.kind
-  pub text : t.text ≡ w.text
+  pub text : IsWorded w.text t.text
   pub at : IfSome w.at (λ p. t.at ≡ p)
 
 -- the tokens are the wanted ones, and then the end alone
@@ -65,24 +81,17 @@ pub record Spells (ts : List TokenTree) (u : UnitTree) : Type 0 where
   pub values : AllByRecursion HasValue u
   pub numbered : IsNumberedFrom 0 (unit_nodes u)
 
--- a token that is not the end is of the kind that its text has
-abbrev pub IsLexed : TokenTree → Type 0
-IsLexed t = (t.kind ≢ kind.End) → t ≡ token_of (record { text = t.text; at = t.at })
-
--- The end has no text.
-abbrev pub EndIsBare : List TokenTree → Type 0
-EndIsBare ts = AllByRecursion (λ t. (t.kind ≡ kind.End) → t.text ≡ []) ts
-
 -- Some unit begins with these tokens.
 abbrev pub BeginsUnit : List TokenTree → Type 0
 BeginsUnit front = (more : List TokenTree) × (u : UnitTree) × Spells (front ++ more) u
 
--- The first token that does not fit is at the place: the tokens before it begin a unit, and with it they begin none.
-pub record IsMisfit (ts : List TokenTree) (at : Place) : Type 0 where
+-- The refusal is that of the first token that does not fit: the tokens before it begin a unit, and with it they begin
+-- none.
+pub record IsMisfit (ts : List TokenTree) (r : Refusal) : Type 0 where
   pub front : List TokenTree
   pub token : TokenTree
   pub behind : List TokenTree
   pub parts : ts ≡ front ++ token ∷ behind
-  pub placed : token.at ≡ at
+  pub refused : r ≡ misfit token
   pub before : BeginsUnit front
   pub misfit : ¬ BeginsUnit (front ++ token ∷ [])

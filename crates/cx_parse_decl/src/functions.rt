@@ -1,13 +1,12 @@
 ghost use Rattle.std.specs.Prelude.{◌≡◌, ◌+◌, ◌<◌, ◌≤◌, ◌^◌, length, map, IfOk};
-ghost use Rattle.std.specs.List.{AllByRecursion};
 ghost use Rattle.cx_base.specs.Refusal.{Gives};
+ghost use Rattle.cx_lexer.specs.Division.{AreSpelled};
 ghost use Rattle.cx_lexer.specs.Tokens.{token_tree};
 ghost use Rattle.cx_tree.specs.UnitTree.{function_tree};
 ghost use Rattle.cx_parse_decl.specs.Grammar.{function_at};
 ghost use Rattle.cx_parse_decl.specs.Rest.{rest_at};
-ghost use Rattle.cx_parse_decl.specs.Spelling.{IsLexed};
 
-use crate::tokens::{expect, name};
+use crate::tokens::{name, punct, word};
 use crate::values::value;
 use cx_base::{NodeId, Stop};
 use cx_lexer::Token;
@@ -22,21 +21,21 @@ pub(crate) fn function_definition<'s>(
     from: usize,
     node: u32,
 ) -> Result<(Function<'s>, u32, usize), Stop>
-    requires lexed { AllByRecursion IsLexed (map token_tree tokens.now) }
+    requires spelled { AreSpelled (map token_tree tokens.now) }
     requires room { node + 6 < 2 ^ 32 }
     ensures exact { Gives (λ x. (function_tree x.0, x.1, rest_at x.2 tokens.now)) result (function_at node (rest_at from tokens.now)) }
     ensures numbers { IfOk result (λ x. x.1 ≤ node + 6) }
     ensures moves { IfOk result (λ x. (from < x.2) × (x.2 ≤ length tokens.now)) }
 {
-    let (int, from) = expect(alloc, tokens, from, "int")?;
+    let (int, from) = word(alloc, tokens, from, "int")?;
     let (name, from) = name(alloc, tokens, from)?;
-    let (_, from) = expect(alloc, tokens, from, "(")?;
-    let (_, from) = expect(alloc, tokens, from, ")")?;
-    let (open, from) = expect(alloc, tokens, from, "{")?;
-    let (keyword, from) = expect(alloc, tokens, from, "return")?;
+    let (_, from) = punct(alloc, tokens, from, "(")?;
+    let (_, from) = punct(alloc, tokens, from, ")")?;
+    let (open, from) = punct(alloc, tokens, from, "{")?;
+    let (keyword, from) = word(alloc, tokens, from, "return")?;
     let (value, next, from) = value(alloc, tokens, from, node + 1)?;
-    let (_, from) = expect(alloc, tokens, from, ";")?;
-    let (_, from) = expect(alloc, tokens, from, "}")?;
+    let (_, from) = punct(alloc, tokens, from, ";")?;
+    let (_, from) = punct(alloc, tokens, from, "}")?;
     let statement = Return {
         node: NodeId(next),
         at: keyword.at,

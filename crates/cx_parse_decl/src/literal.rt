@@ -1,13 +1,18 @@
 ghost use Rattle.std.specs.Prelude.{◌≡◌, true};
-ghost use Rattle.cx_lexer.specs.Tokens.{is_literal, number_of};
+ghost use Rattle.cx_lexer.specs.Literals.{is_literal};
+ghost use Rattle.cx_parse_decl.specs.Grammar.{int_value};
 
-/// The number that a decimal literal says.
-pub(crate) fn number(text: &str) -> u32
+use cx_base::Scalar;
+use cx_lexer::literal;
+
+/// The value of a literal, where its type is int.
+#[tactic(auto, unfolding(crate::specs::Grammar::int_value))]
+pub(crate) fn int_value(text: &str) -> Option<u32>
     requires { is_literal text.now ≡ true }
-    ensures { result ≡ number_of text.now }
+    ensures { result ≡ int_value text.now }
 {
-    match text.parse::<u32>() {
-        Ok(number) => number,
-        Err(_) => unreachable!(),
+    match literal(text) {
+        Some((Scalar::Int, value)) => Some(value as u32),
+        _ => None,
     }
 }

@@ -1,6 +1,6 @@
 use super::*;
 use cx_base::{Fault, Kind, NodeId, Place, Stop};
-use cx_lexer::lex;
+use cx_lexer::{lex, one_division};
 use cx_tree::{Expr, Unit};
 use std::alloc::Global;
 use std::process::Abort;
@@ -8,7 +8,9 @@ use std::test::Fail;
 
 fn parsed<'s>(rt: &impl Abort, alloc: Global, text: &'s [u8]) -> Result<Unit<'s>, Stop> {
     assert!(rt; text.len() < 1000);
+    one_division();
     let tokens = lex(alloc, text)?;
+    assert!(rt; tokens.len() < 1000);
     parse_unit(alloc, &tokens)
 }
 
@@ -92,23 +94,49 @@ fn no_functions(rt: HostRuntime) -> Result<(), Fail> {
 }
 
 #[test]
-fn faults_stand_at_the_first_token_that_does_not_fit(rt: HostRuntime) -> Result<(), Fail> {
-    let cases: [(&[u8], u32, u32); 11] = [
-        (b"int f() { return }", 1, 18),
-        (b"int f() {\n  return 1\n}", 3, 1),
-        (b"int f() { return 1;", 1, 20),
-        (b"int f() { return @; }", 1, 18),
-        (b"int f() { return 2147483648; }", 1, 18),
-        (b"int int() { return 1; }", 1, 5),
-        (b"int return() { return 1; }", 1, 5),
-        (b"int f(;", 1, 7),
-        (b"int f() { return g(1); }", 1, 20),
-        (b"int f() { return 1; } ;", 1, 23),
-        (b"f() { return 1; }", 1, 1),
+fn literals_of_type_int(rt: HostRuntime) -> Result<(), Fail> {
+    let cases: [(&[u8], u32); 5] = [
+        (b"int f() { return 0; }", 0),
+        (b"int f() { return 2147483647; }", 2147483647),
+        (b"int f() { return 0x0; }", 0),
+        (b"int f() { return 0x00aF; }", 175),
+        (b"int f() { return 0X7fffffff; }", 2147483647),
     ];
-    for (text, line, col) in cases {
+    for (text, value) in cases {
+        let unit = parsed(&rt, rt.alloc(), text)?;
+        assert_eq!(rt; unit.functions.len(), 1, "{text:?}");
+        match &unit.functions[0].body.statement.value {
+            Expr::Literal(literal) => assert_eq!(rt; literal.value, value, "{text:?}"),
+            Expr::Call(_) => assert!(rt; false),
+        }
+    }
+    Ok(())
+}
+
+#[test]
+fn faults_stand_at_the_first_token_that_does_not_fit(rt: HostRuntime) -> Result<(), Fail> {
+    let cases: [(&[u8], Kind, u32, u32); 17] = [
+        (b"int f() { return }", Kind::Syntax, 1, 18),
+        (b"int f() {\n  return 1\n}", Kind::Syntax, 3, 1),
+        (b"int f() { return 1;", Kind::Syntax, 1, 20),
+        (b"int f() { return 2147483648; }", Kind::Syntax, 1, 18),
+        (b"int f() { return 0x80000000; }", Kind::Syntax, 1, 18),
+        (b"int f() { return 1u; }", Kind::Syntax, 1, 18),
+        (b"int f() { return \"1\"; }", Kind::Syntax, 1, 18),
+        (b"int int() { return 1; }", Kind::Syntax, 1, 5),
+        (b"int and() { return 1; }", Kind::Syntax, 1, 5),
+        (b"int f(;", Kind::Syntax, 1, 7),
+        (b"int f() { return g(1); }", Kind::Syntax, 1, 20),
+        (b"int f() { return 1; } ;", Kind::Syntax, 1, 23),
+        (b"f() { return 1; }", Kind::Syntax, 1, 1),
+        (b"int f() { goto x; }", Kind::Unsupported, 1, 11),
+        (b"int operator() { return 1; }", Kind::Unsupported, 1, 5),
+        (b"int f[1]", Kind::Unsupported, 1, 6),
+        (b"int f() { return g->*h; }", Kind::Unsupported, 1, 19),
+    ];
+    for (text, kind, line, col) in cases {
         let fault = fault(&rt, rt.alloc(), text).ok_or("a fault")?;
-        assert_eq!(rt; fault.kind, Kind::Syntax, "{text:?}");
+        assert_eq!(rt; fault.kind, kind, "{text:?}");
         assert_eq!(rt; fault.at, place(line, col), "{text:?}");
         assert!(rt; fault.also.is_empty(), "{text:?}");
         assert!(rt; fault.chain.is_empty(), "{text:?}");

@@ -1,12 +1,12 @@
 ghost use Rattle.std.specs.Prelude.{◌≡◌, ◌+◌, ◌*◌, ◌^◌, ◌<◌, ◌≤◌, length, map, IfOk};
 ghost use Rattle.std.specs.List.{AllByRecursion};
 ghost use Rattle.cx_base.specs.Refusal.{Gives};
-ghost use Rattle.cx_lexer.specs.Division.{AreLexed};
+ghost use Rattle.cx_lexer.specs.Division.{EndsOnce, AreSpelled};
 ghost use Rattle.cx_lexer.specs.Tokens.{token_tree};
 ghost use Rattle.cx_tree.specs.UnitTree.{unit_tree, function_tree, HasIntValue};
 ghost use Rattle.cx_parse_decl.specs.Grammar.{unit_at};
 ghost use Rattle.cx_parse_decl.specs.Rest.{rest_at, begins_with_end};
-ghost use Rattle.cx_parse_decl.specs.Spelling.{Spells, IsLexed};
+ghost use Rattle.cx_parse_decl.specs.Spelling.{Spells};
 
 use crate::functions::function_definition;
 use cx_base::Stop;
@@ -26,7 +26,7 @@ fn is_end(tokens: &[Token], from: usize) -> bool
 
 /// The functions of a unit, in order.
 fn functions<'s>(alloc: Global, tokens: &[Token<'s>]) -> Result<Vec<Function<'s>>, Stop>
-    requires lexed { AllByRecursion IsLexed (map token_tree tokens.now) }
+    requires spelled { AreSpelled (map token_tree tokens.now) }
     requires room { 16 * length tokens.now < 2 ^ 32 }
     ensures { Gives (λ v. map function_tree v.items) result (unit_at (map token_tree tokens.now)) }
 {
@@ -42,10 +42,11 @@ fn functions<'s>(alloc: Global, tokens: &[Token<'s>]) -> Result<Vec<Function<'s>
     Ok(functions)
 }
 
-/// The unit that the tokens spell. Refuses as Syntax at the first token that does not fit, where they spell none, and
-/// for want of memory.
+/// The unit that the tokens spell. Where they spell none, the fault stands at the first token that does not fit:
+/// Unsupported for a token that the language never has, else Syntax. Refuses otherwise for want of memory alone.
 pub fn parse_unit<'s>(alloc: Global, tokens: &[Token<'s>]) -> Result<Unit<'s>, Stop>
-    requires lexed { AreLexed (map token_tree tokens.now) }
+    requires ended { EndsOnce (map token_tree tokens.now) }
+    requires spelled { AreSpelled (map token_tree tokens.now) }
     requires room { 16 * length tokens.now < 2 ^ 32 }
     ensures exact { Gives unit_tree result (unit_at (map token_tree tokens.now)) }
     ensures spelled { IfOk result (λ u. Spells (map token_tree tokens.now) (unit_tree u)) }

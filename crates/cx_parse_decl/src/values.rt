@@ -1,15 +1,14 @@
 ghost use Rattle.std.specs.Prelude.{◌≡◌, ◌+◌, ◌<◌, ◌≤◌, ◌^◌, length, map, IfOk};
-ghost use Rattle.std.specs.List.{AllByRecursion};
 ghost use Rattle.cx_base.specs.Refusal.{Gives};
+ghost use Rattle.cx_lexer.specs.Division.{AreSpelled};
 ghost use Rattle.cx_lexer.specs.Tokens.{token_tree};
 ghost use Rattle.cx_tree.specs.UnitTree.{expr_tree};
 ghost use Rattle.cx_parse_decl.specs.Grammar.{value_at, call_at};
 ghost use Rattle.cx_parse_decl.specs.Rest.{rest_at};
-ghost use Rattle.cx_parse_decl.specs.Spelling.{IsLexed};
 
-use crate::fault::syntax;
-use crate::literal::number;
-use crate::tokens::{expect, token};
+use crate::fault::misfit;
+use crate::literal::int_value;
+use crate::tokens::{punct, token};
 use cx_base::{NodeId, Stop};
 use cx_lexer::{Token, TokenKind};
 use cx_tree::{Call, Expr, Literal, Name};
@@ -29,8 +28,8 @@ fn call<'s>(
     ensures numbers { IfOk result (λ x. x.1 ≤ node + 2) }
     ensures moves { IfOk result (λ x. (from < x.2) × (x.2 ≤ length tokens.now)) }
 {
-    let (_, from) = expect(alloc, tokens, from, "(")?;
-    let (_, from) = expect(alloc, tokens, from, ")")?;
+    let (_, from) = punct(alloc, tokens, from, "(")?;
+    let (_, from) = punct(alloc, tokens, from, ")")?;
     let callee = Name {
         node: NodeId(node),
         at: name.at,
@@ -52,7 +51,7 @@ pub(crate) fn value<'s>(
     from: usize,
     node: u32,
 ) -> Result<(Expr<'s>, u32, usize), Stop>
-    requires lexed { AllByRecursion IsLexed (map token_tree tokens.now) }
+    requires spelled { AreSpelled (map token_tree tokens.now) }
     requires room { node + 2 < 2 ^ 32 }
     ensures exact { Gives (λ x. (expr_tree x.0, x.1, rest_at x.2 tokens.now)) result (value_at node (rest_at from tokens.now)) }
     ensures numbers { IfOk result (λ x. x.1 ≤ node + 2) }
@@ -60,17 +59,20 @@ pub(crate) fn value<'s>(
 {
     let token = token(alloc, tokens, from)?;
     match token.kind {
-        TokenKind::Int => {
-            let literal = Literal {
-                node: NodeId(node),
-                at: token.at,
-                value: number(token.text),
-            };
-            Ok((Expr::Literal(literal), node + 1, from + 1))
-        }
+        TokenKind::Int => match int_value(token.text) {
+            Some(value) => {
+                let literal = Literal {
+                    node: NodeId(node),
+                    at: token.at,
+                    value,
+                };
+                Ok((Expr::Literal(literal), node + 1, from + 1))
+            }
+            None => Err(misfit(alloc, &token)),
+        },
         TokenKind::Name => call(alloc, tokens, from + 1, token, node),
-        TokenKind::Word | TokenKind::Punct | TokenKind::End | TokenKind::Stray => {
-            Err(syntax(alloc, token.at))
+        TokenKind::Word | TokenKind::Str | TokenKind::Punct | TokenKind::End => {
+            Err(misfit(alloc, &token))
         }
     }
 }

@@ -1,6 +1,7 @@
 use Rattle.std.proofs.Common.{◌<◌, length, refl, sym}
 use Rattle.std.proofs.lemmas.Bool.{ltb-true, ltb-false}
 use Rattle.std.proofs.lemmas.Option.{slice_get_read}
+use Rattle.cx_lexer.specs.Tokens.{token_tree}
 use Rattle.cx_parse_decl.proofs.Rest.{first_some, first_none}
 use Rattle.cx_parse_decl.proofs.tokens.token.Goals as goal
 
@@ -15,4 +16,5 @@ returns-in-Some-clause-item c =
     slice_get_read c.args.tokens.now _ c.args.from c.in-Some.token.now refl lt c.in-Some.ensures.lookup.1
 
 pub returns-in-None-clause-exact : goal.returns-in-None-clause-exact
-returns-in-None-clause-exact c = rw c.syntax.ensures (first_none c.args.tokens.now c.args.from (ltb-false _ _ (sym c.in-None.ensures.lookup.0)))
+returns-in-None-clause-exact c =
+    rw c.misfit.ensures (first_none c.args.tokens.now c.args.from (token_tree c.end_at_start.result) (ltb-false _ _ (sym c.in-None.ensures.lookup.0)) c.end_at_start.ensures)
