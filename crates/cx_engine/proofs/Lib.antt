@@ -1,5 +1,5 @@
+pub mod FormsLemmas
 pub mod NamesLemmas
 pub mod ResolutionLemmas
-pub mod TranslationLemmas
 pub mod MeaningLemmas
 pub mod WellNamedLemmas

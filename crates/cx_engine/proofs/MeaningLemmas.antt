@@ -1,19 +1,37 @@
 -- A unit whose names are all found: each name's number is that of its function, and so the plain functions do what
 -- the functions of the source do.
-use Rattle.std.proofs.Common.{◌≡◌, ℕ, zero, suc, ◌+◌, ◌<◌, Bool, true, false, cond, List, [], ◌∷◌, ◌++◌, length, Option, Some, None, Result, Ok, Err, refl, ap, sym, ◌∙◌, subst, arith, append_assoc, length-append}
+use Rattle.std.proofs.Common.{◌≡◌, ℕ, zero, suc, ◌+◌, ◌<◌, Bool, true, false, cond, List, [], ◌∷◌, ◌++◌, length, Option, Some, None, is_some, option_to_list, Result, Ok, Err, ℤ, pos, nat_le, FitsSigned, lit<, refl, ap, sym, ◌∙◌, subst, arith, append_assoc, length-append}
 use Rattle.std.specs.Prelude.{map, slice_get}
 use Rattle.std.specs.List.{AllByRecursion}
+use Rattle.std.specs.Int.{w32}
 use Rattle.std.specs.Option.{option_map}
 use Rattle.std.specs.Str.{bytes_eq}
+use Rattle.std.proofs.lemmas.Bool.{leb-true}
 use Rattle.std.proofs.lemmas.Slice.Eq.{bytes_eq-Decides}
 use Rattle.cx_base.specs.Refusal.{Refusal, ◌>>=◌}
-use Rattle.cx_base.specs.Outcome.{Outcome, Running}
-use Rattle.cx_plain.specs.PlainMeaning.{run_expr, run_body, run}
+use Rattle.cx_base.specs.Outcome.{Outcome, Returned, Undefined, Running}
+use Rattle.cx_base.specs.declared.place.Place.{Place}
+use Rattle.cx_base.specs.declared.value.Scalar.{Scalar}
+use Rattle.cx_base.specs.declared.value.Scalar.TheVariants as scalar
+use Rattle.cx_plain.specs.declared.operators.BinaryOperator.{BinaryOperator as PlainOperator}
+use Rattle.cx_plain.specs.Arithmetic.{negation, complement}
+use Rattle.cx_plain.specs.Evaluation.{and_then, given}
+use Rattle.cx_plain.specs.PlainTree.{PlainExpr, PlainConstant, PlainFunction}
+use Rattle.cx_plain.specs.PlainMeaning.{binary_result, run_expr, run_body, run_call, run}
 use Rattle.cx_plain.specs.PlainTyping.{IsTypedExpr, IsTypedFunction}
-use Rattle.cx_tree.specs.UnitTree.{ExprTree, LiteralTree, CallTree, FunctionTree, UnitTree}
-use Rattle.cx_engine.specs.Names.{Declared, declared, declaration_of, number_of, is_new, is_known, names_value, names_function, names_functions}
-use Rattle.cx_engine.specs.Plain.{plain_expr, plain_function}
-use Rattle.cx_engine.specs.SourceMeaning.{function_named, value_meaning, body_meaning, meaning}
+use Rattle.cx_tree.specs.declared.operators.UnaryOperator.{UnaryOperator}
+use Rattle.cx_tree.specs.declared.operators.UnaryOperator.TheVariants as unary
+use Rattle.cx_tree.specs.declared.operators.BinaryOperator.{BinaryOperator}
+use Rattle.cx_tree.specs.declared.operators.BinaryOperator.TheVariants as binary
+use Rattle.cx_tree.specs.Trees.{ExprTree, IntTree, BoolTree, NameTree, TemplateTree, QualifiedTree, ListTree, GroupTree, StaticCastTree, IsSameTree, OutTree, MemberTree, CallTree, PostfixTree, UnaryTree, BinaryTree, ConditionalTree, AssignmentTree}
+use Rattle.cx_tree.specs.UnitTree.{FunctionTree, UnitTree}
+use Rattle.cx_engine.specs.Forms.{Mention, mention_of, is_int_literal, is_built_unary, plain_operator, first_of, unbuilt_in, unbuilt_type, unbuilt_function, first_unbuilt, is_built, forms_unit}
+use Rattle.cx_engine.specs.Names.{Declared, declared, declaration_of, number_of, is_new, is_known, calls_in, names_called, names_function, names_functions}
+use Rattle.cx_engine.specs.Plain.{unbuilt, plain_call, plain_unary, plain_binary, plain_expr, plain_function}
+use Rattle.cx_engine.specs.SourceMeaning.{function_named, unary_meaning, binary_meaning, call_of, value_meaning, body_meaning, call_meaning, meaning}
+
+some_is : {X : Type 0} (x y : X) → Some x ≡ Some y → x ≡ y
+some_is x y e = cc
 
 -- the value of a stage that did not refuse
 bind_ok : {A B : Type 0} (r : Result A Refusal) (f : A → Result B Refusal) (y : B) → (r >>= f) ≡ Ok y → (x : A) × (r ≡ Ok x) × (f x ≡ Ok y)
@@ -70,39 +88,45 @@ unfolding is_known
 known_name at None e = absurd cc
 known_name at (Some d) e = (d, refl)
 
--- the name of a call has a number
-abbrev pub IsResolved : List Declared → ExprTree → Type 0
-IsResolved names (LiteralTree mark value) = Unit {0}
-IsResolved names (CallTree mark callee name) = (j : ℕ) × (number_of name names ≡ Some j)
+-- each name that is called has a number
+abbrev pub IsResolved : List Declared → List Mention → Type 0
+IsResolved names cs = AllByRecursion (λ c. (j : ℕ) × (number_of c.name names ≡ Some j)) cs
 
-resolved_value : (names more : List Declared) (value : ExprTree) → names_value names value ≡ Ok tt → IsResolved (names ++ more) value
-unfolding names_value
-resolved_value names more (LiteralTree mark value) e = tt
-resolved_value names more (CallTree mark callee name) e =
-    let d = known_name callee.at (declaration_of name names) e in
-    let j = number_of-declared name names d.0 d.1 in
-    (j.0, number_of-before name names more j.0 j.1)
+resolved_calls : (names more : List Declared) (cs : List Mention) → names_called names cs ≡ Ok tt → IsResolved (names ++ more) cs
+unfolding names_called
+resolved_calls names more [] e = tt
+resolved_calls names more (c ∷ cs) e =
+    let known = bind_ok (is_known c.at (declaration_of c.name names)) (λ _. names_called names cs) tt e in
+    let d = known_name c.at (declaration_of c.name names) known.1 in
+    let j = number_of-declared c.name names d.0 d.1 in
+    ((j.0, number_of-before c.name names more j.0 j.1), resolved_calls names more cs known.2)
+
+resolved_split : (names : List Declared) (cs ds : List Mention) → IsResolved names (cs ++ ds) → IsResolved names cs × IsResolved names ds
+resolved_split names [] ds all = (tt, all)
+resolved_split names (c ∷ cs) ds all =
+    let rest = resolved_split names cs ds all.1 in
+    ((all.0, rest.0), rest.1)
 
 -- one function is found, and then the others
 first_found : (names : List Declared) (f : FunctionTree) (fs : List FunctionTree) → names_functions names (f ∷ fs) ≡ Ok tt
-    → (declaration_of f.name names ≡ None) × (names_value (names ++ declared f ∷ []) f.value ≡ Ok tt) × (names_functions (names ++ declared f ∷ []) fs ≡ Ok tt)
+    → (declaration_of f.name names ≡ None) × (names_called (names ++ declared f ∷ []) (calls_in f.value) ≡ Ok tt) × (names_functions (names ++ declared f ∷ []) fs ≡ Ok tt)
 unfolding names_functions names_function
 first_found names f fs e =
     let a = bind_ok (names_function names f) (λ _. names_functions (names ++ declared f ∷ []) fs) tt e in
-    let b = bind_ok (is_new f.mark.at (declaration_of f.name names)) (λ _. names_value (names ++ declared f ∷ []) f.value) a.0 a.1 in
+    let b = bind_ok (is_new f.mark.at (declaration_of f.name names)) (λ _. names_called (names ++ declared f ∷ []) (calls_in f.value)) a.0 a.1 in
     let new : is_new f.mark.at (declaration_of f.name names) ≡ Ok tt = b.1 in
     (new_name f.mark.at (declaration_of f.name names) new, b.2, a.2)
 
 behind : (names : List Declared) (f : FunctionTree) (fs : List FunctionTree) → (names ++ declared f ∷ []) ++ map declared fs ≡ names ++ map declared (f ∷ fs)
 behind names f fs = append_assoc names (declared f ∷ []) (map declared fs)
 
-pub all_resolved : (names : List Declared) (fs : List FunctionTree) → names_functions names fs ≡ Ok tt → AllByRecursion (λ f. IsResolved (names ++ map declared fs) f.value) fs
+pub all_resolved : (names : List Declared) (fs : List FunctionTree) → names_functions names fs ≡ Ok tt → AllByRecursion (λ f. IsResolved (names ++ map declared fs) (calls_in f.value)) fs
 all_resolved names [] e = tt
 all_resolved names (f ∷ fs) e =
     let found = first_found names f fs e in
-    let here : IsResolved ((names ++ declared f ∷ []) ++ map declared fs) f.value = resolved_value (names ++ declared f ∷ []) (map declared fs) f.value found.1 in
+    let here : IsResolved ((names ++ declared f ∷ []) ++ map declared fs) (calls_in f.value) = resolved_calls (names ++ declared f ∷ []) (map declared fs) (calls_in f.value) found.1 in
     let later = all_resolved (names ++ declared f ∷ []) fs found.2 in
-    subst (λ (all : List Declared). IsResolved all f.value × AllByRecursion (λ g. IsResolved all g.value) fs) (behind names f fs) (here, later)
+    subst (λ (all : List Declared). IsResolved all (calls_in f.value) × AllByRecursion (λ g. IsResolved all (calls_in g.value)) fs) (behind names f fs) (here, later)
 
 pub own_number : (names : List Declared) (fs : List FunctionTree) (k : ℕ) (f : FunctionTree) → names_functions names fs ≡ Ok tt → slice_get fs k ≡ Some f → number_of f.name (names ++ map declared fs) ≡ Some (length names + k)
 own_number names [] k f e at = absurd cc
@@ -160,11 +184,11 @@ slice_get-map g (y ∷ ys) zero x e =
     ap (λ z. Some (g z)) is
 slice_get-map g (y ∷ ys) (suc k) x e = slice_get-map g ys k x e
 
-resolved_at : (names : List Declared) (fs : List FunctionTree) (k : ℕ) (f : FunctionTree) → AllByRecursion (λ g. IsResolved names g.value) fs → slice_get fs k ≡ Some f → IsResolved names f.value
+resolved_at : (names : List Declared) (fs : List FunctionTree) (k : ℕ) (f : FunctionTree) → AllByRecursion (λ g. IsResolved names (calls_in g.value)) fs → slice_get fs k ≡ Some f → IsResolved names (calls_in f.value)
 resolved_at names [] k f all e = absurd cc
 resolved_at names (g ∷ gs) zero f all e =
     let is : g ≡ f = cc in
-    subst (λ (h : FunctionTree). IsResolved names h.value) is all.0
+    subst (λ (h : FunctionTree). IsResolved names (calls_in h.value)) is all.0
 resolved_at names (g ∷ gs) (suc k) f all e = resolved_at names gs k f all.1 e
 
 named_own : (u : UnitTree) (k : ℕ) (f : FunctionTree) → names_functions [] u ≡ Ok tt → slice_get u k ≡ Some f → function_named u f.name ≡ Some f
@@ -172,23 +196,147 @@ named_own u k f e at =
     let same : 0 + k ≡ k = omega arith in
     function_named-number u f.name k (own_number [] u k f e at ∙ ap (λ (n : ℕ). Some n) same) ∙ at
 
-value_runs : (names : List Declared) (n : ℕ) (calls : ℕ → Outcome) (called : List ℕ → Outcome) (value : ExprTree) → IsResolved names value
-    → ((name : List ℕ) (j : ℕ) → number_of name names ≡ Some j → calls j ≡ called name) → run_expr n calls (plain_expr names value) ≡ value_meaning n called value
-value_runs names n calls called (LiteralTree mark value) resolved h = refl
-value_runs names n calls called (CallTree mark callee name) resolved h = rw resolved.1 (h name resolved.0 resolved.1)
+-- ---- expressions
 
-body_runs : (u : UnitTree) (k : ℕ) (f : FunctionTree) (n : ℕ) (calls : ℕ → Outcome) (called : List ℕ → Outcome) → names_functions [] u ≡ Ok tt → slice_get u k ≡ Some f
-    → ((name : List ℕ) (j : ℕ) → number_of name (map declared u) ≡ Some j → calls j ≡ called name)
-    → run_body n calls (slice_get (map (plain_function (map declared u)) u) k) ≡ body_meaning n called (function_named u f.name)
-body_runs u k f n calls called e at h =
-    rw (slice_get-map (plain_function (map declared u)) u k f at, named_own u k f e at) (value_runs (map declared u) n calls called f.value (resolved_at (map declared u) u k f (all_resolved [] u e) at) h)
+-- what a stage of forms let through
+first_none : (a b : Option Place) → first_of a b ≡ None → (a ≡ None) × (b ≡ None)
+first_none None b e = (refl, e)
+first_none (Some at) b e = absurd cc
 
-pub runs : (u : UnitTree) → names_functions [] u ≡ Ok tt → (n k : ℕ) (f : FunctionTree) → slice_get u k ≡ Some f → run n (map (plain_function (map declared u)) u) k ≡ meaning n u f.name
-unfolding run meaning
-runs u e zero k f at = body_runs u k f zero (λ _. Running) (λ _. Running) e at (λ name j h. refl)
-runs u e (suc n) k f at = body_runs u k f (suc n) (run n (map (plain_function (map declared u)) u)) (meaning n u) e at (λ name j h.
+then_equal : (o p : Outcome) (f g : ℤ → ℕ → Outcome) → o ≡ p → ((x : ℤ) (left : ℕ) → f x left ≡ g x left) → and_then o f ≡ and_then p g
+then_equal (Returned x left) p f g e h = rw (← e) (h x left)
+then_equal Undefined p f g e h = rw (← e) refl
+then_equal Running p f g e h = rw (← e) refl
+
+-- the value alone, as unary plus gives it
+then_same : (o : Outcome) → o ≡ and_then o (λ x left. given (Some x) left)
+then_same (Returned x left) = refl
+then_same Undefined = refl
+then_same Running = refl
+
+-- where a plain operator stands for one of the source, they do the same
+operators_agree : (op : BinaryOperator) (p : PlainOperator) → plain_operator op ≡ Some p → (x y : ℤ) → binary_result p x y ≡ binary_meaning op x y
+operators_agree binary.Multiply p e x y = rw (← some_is _ p e) refl
+operators_agree binary.Divide p e x y = rw (← some_is _ p e) refl
+operators_agree binary.Remainder p e x y = rw (← some_is _ p e) refl
+operators_agree binary.Add p e x y = rw (← some_is _ p e) refl
+operators_agree binary.Subtract p e x y = rw (← some_is _ p e) refl
+operators_agree binary.BitAnd p e x y = rw (← some_is _ p e) refl
+operators_agree binary.BitXor p e x y = rw (← some_is _ p e) refl
+operators_agree binary.BitOr p e x y = rw (← some_is _ p e) refl
+operators_agree binary.ShiftLeft p e x y = absurd cc
+operators_agree binary.ShiftRight p e x y = absurd cc
+operators_agree binary.Less p e x y = absurd cc
+operators_agree binary.LessEqual p e x y = absurd cc
+operators_agree binary.Greater p e x y = absurd cc
+operators_agree binary.GreaterEqual p e x y = absurd cc
+operators_agree binary.Equal p e x y = absurd cc
+operators_agree binary.NotEqual p e x y = absurd cc
+operators_agree binary.And p e x y = absurd cc
+operators_agree binary.Or p e x y = absurd cc
+
+-- plain calls by numbers do what calls by names do
+abbrev Agree : List Declared → (ℕ → ℕ → Outcome) → (List ℕ → ℕ → Outcome) → Type 0
+Agree names calls called = (name : List ℕ) (j : ℕ) → number_of name names ≡ Some j → (n : ℕ) → calls j n ≡ called name n
+
+int_runs : (calls : ℕ → ℕ → Outcome) (b : Bool) (at : Place) (value n : ℕ) → cond b None (Some at) ≡ None → run_expr calls (cond b (PlainConstant (pos value)) unbuilt) n ≡ Returned (pos value) n
+int_runs calls true at value n built = refl
+int_runs calls false at value n built = absurd cc
+
+call_runs : (names : List Declared) (calls : ℕ → ℕ → Outcome) (called : List ℕ → ℕ → Outcome) → Agree names calls called → (o : Option Mention) (at : Place) (n : ℕ) → cond (is_some o) None (Some at) ≡ None
+    → IsResolved names (option_to_list o) → run_expr calls (plain_call names o) n ≡ call_of called o n
+call_runs names calls called h None at n built resolved = absurd cc
+call_runs names calls called h (Some c) at n built resolved = rw resolved.0.1 (h c.name resolved.0.0 resolved.0.1 n)
+
+unary_runs : (calls : ℕ → ℕ → Outcome) (op : UnaryOperator) (at : Place) (inner : Option Place) (plain : PlainExpr) (o : Outcome) (n : ℕ) → cond (is_built_unary op) inner (Some at) ≡ None
+    → (inner ≡ None → run_expr calls plain n ≡ o) → run_expr calls (plain_unary op plain) n ≡ and_then o (λ x left. given (unary_meaning op x) left)
+unary_runs calls unary.Plus at inner plain o n built h = h built ∙ then_same o
+unary_runs calls unary.Minus at inner plain o n built h = ap (λ p. and_then p (λ x left. given (negation x) left)) (h built)
+unary_runs calls unary.Complement at inner plain o n built h = ap (λ p. and_then p (λ x left. given (complement x) left)) (h built)
+unary_runs calls unary.Not at inner plain o n built h = absurd cc
+unary_runs calls unary.Increment at inner plain o n built h = absurd cc
+unary_runs calls unary.Decrement at inner plain o n built h = absurd cc
+
+binary_runs : (calls : ℕ → ℕ → Outcome) (op : BinaryOperator) (q : Option PlainOperator) (at : Place) (a b : Option Place) (left right : PlainExpr) (first : Outcome) (second : ℕ → Outcome) (n : ℕ) → plain_operator op ≡ q
+    → cond (is_some q) (first_of a b) (Some at) ≡ None → (a ≡ None → run_expr calls left n ≡ first) → (b ≡ None → (m : ℕ) → run_expr calls right m ≡ second m)
+    → run_expr calls (plain_binary q left right) n ≡ and_then first (λ x m. and_then (second m) (λ y k. given (binary_meaning op x y) k))
+binary_runs calls op None at a b left right first second n is built h k = absurd cc
+binary_runs calls op (Some p) at a b left right first second n is built h k =
+    let both = first_none a b built in
+    then_equal (run_expr calls left n) first _ _ (h both.0) (λ x m. then_equal (run_expr calls right m) (second m) _ _ (k both.1 m) (λ y l. ap (λ r. given r l) (operators_agree op p is x y)))
+
+value_runs : (names : List Declared) (calls : ℕ → ℕ → Outcome) (called : List ℕ → ℕ → Outcome) → Agree names calls called → (e : ExprTree) → unbuilt_in e ≡ None → IsResolved names (calls_in e)
+    → (n : ℕ) → run_expr calls (plain_expr names e) n ≡ value_meaning called e n
+value_runs names calls called h (IntTree m scalar.Int value) built resolved n = int_runs calls (nat_le value 2147483647) m.at value n built
+value_runs names calls called h (IntTree m scalar.Bool value) built resolved n = absurd cc
+value_runs names calls called h (IntTree m scalar.Unsigned value) built resolved n = absurd cc
+value_runs names calls called h (IntTree m scalar.LongLong value) built resolved n = absurd cc
+value_runs names calls called h (IntTree m scalar.ULongLong value) built resolved n = absurd cc
+value_runs names calls called h (CallTree m callee arguments) built resolved n = call_runs names calls called h (mention_of callee arguments) m.at n built resolved
+value_runs names calls called h (GroupTree m inner) built resolved n = value_runs names calls called h inner built resolved n
+value_runs names calls called h (UnaryTree m op operand) built resolved n =
+    unary_runs calls op m.at (unbuilt_in operand) (plain_expr names operand) (value_meaning called operand n) n built (λ fine. value_runs names calls called h operand fine resolved n)
+value_runs names calls called h (BinaryTree m op left right) built resolved n =
+    let both = resolved_split names (calls_in left) (calls_in right) resolved in
+    binary_runs calls op (plain_operator op) m.at (unbuilt_in left) (unbuilt_in right) (plain_expr names left) (plain_expr names right) (value_meaning called left n) (value_meaning called right) n refl built
+    (λ fine. value_runs names calls called h left fine both.0 n) (λ fine m. value_runs names calls called h right fine both.1 m)
+value_runs names calls called h (BoolTree m v) built resolved n = absurd cc
+value_runs names calls called h (NameTree m v) built resolved n = absurd cc
+value_runs names calls called h (TemplateTree m v as') built resolved n = absurd cc
+value_runs names calls called h (QualifiedTree m t ns) built resolved n = absurd cc
+value_runs names calls called h (ListTree m t is) built resolved n = absurd cc
+value_runs names calls called h (StaticCastTree m t o) built resolved n = absurd cc
+value_runs names calls called h (IsSameTree m l r) built resolved n = absurd cc
+value_runs names calls called h (OutTree m o) built resolved n = absurd cc
+value_runs names calls called h (MemberTree m o v) built resolved n = absurd cc
+value_runs names calls called h (PostfixTree m p o) built resolved n = absurd cc
+value_runs names calls called h (ConditionalTree m c t o) built resolved n = absurd cc
+value_runs names calls called h (AssignmentTree m p t v) built resolved n = absurd cc
+
+-- ---- functions
+
+built_at : (u : UnitTree) (k : ℕ) (f : FunctionTree) → first_unbuilt u ≡ None → slice_get u k ≡ Some f → unbuilt_in f.value ≡ None
+built_at [] k f built at = absurd cc
+built_at (g ∷ gs) zero f built at =
+    let here = first_none (unbuilt_function g) (first_unbuilt gs) built in
+    let value = first_none (unbuilt_type g.type) (unbuilt_in g.value) here.0 in
+    let is : g ≡ f = cc in
+    subst (λ (h : FunctionTree). unbuilt_in h.value ≡ None) is value.1
+built_at (g ∷ gs) (suc k) f built at = built_at gs k f (first_none (unbuilt_function g) (first_unbuilt gs) built).1 at
+
+forms_pass : (u : UnitTree) → forms_unit u ≡ Ok tt → first_unbuilt u ≡ None
+unfolding forms_unit
+forms_pass u e = by (first_unbuilt u) e
+  where
+    by : (o : Option Place) → is_built o ≡ Ok tt → o ≡ None
+    by None h = refl
+    by (Some at) h = absurd cc
+
+-- the plain functions of a unit
+abbrev plain_functions : UnitTree → List PlainFunction
+plain_functions u = map (plain_function (map declared u)) u
+
+body_runs : (u : UnitTree) (k : ℕ) (f : FunctionTree) (n : ℕ) (calls : ℕ → ℕ → Outcome) (called : List ℕ → ℕ → Outcome) → first_unbuilt u ≡ None → names_functions [] u ≡ Ok tt → slice_get u k ≡ Some f
+    → Agree (map declared u) calls called → run_body calls (slice_get (plain_functions u) k) n ≡ body_meaning called (function_named u f.name) n
+body_runs u k f n calls called built e at h =
+    rw (slice_get-map (plain_function (map declared u)) u k f at, named_own u k f e at)
+    (value_runs (map declared u) calls called h f.value (built_at u k f built at) (resolved_at (map declared u) u k f (all_resolved [] u e) at) n)
+
+call_runs_at : (u : UnitTree) → first_unbuilt u ≡ None → names_functions [] u ≡ Ok tt → (depth k : ℕ) (f : FunctionTree) → slice_get u k ≡ Some f → (n : ℕ) → run_call depth (plain_functions u) k n ≡ call_meaning depth u f.name n
+unfolding run_call call_meaning
+call_runs_at u built e zero k f at n = refl
+call_runs_at u built e (suc depth) k f at zero = refl
+call_runs_at u built e (suc depth) k f at (suc n) = body_runs u k f n (run_call depth (plain_functions u)) (call_meaning depth u) built e at (λ name j h m.
     let there = function_there u name j h in
-    runs u e n j there.0 there.1 ∙ ap (meaning n u) (sym there.2))
+    call_runs_at u built e depth j there.0 there.1 m ∙ ap (λ q. call_meaning depth u q m) (sym there.2))
+
+pub runs : (u : UnitTree) → forms_unit u ≡ Ok tt → names_functions [] u ≡ Ok tt → (n k : ℕ) (f : FunctionTree) → slice_get u k ≡ Some f → run n (map (plain_function (map declared u)) u) k ≡ meaning n u f.name
+unfolding run meaning
+runs u forms e n k f at =
+    let built = forms_pass u forms in
+    body_runs u k f n (run_call n (plain_functions u)) (call_meaning n u) built e at (λ name j h m.
+    let there = function_there u name j h in
+    call_runs_at u built e n j there.0 there.1 m ∙ ap (λ q. call_meaning n u q m) (sym there.2))
 
 -- ---- typing
 
@@ -205,11 +353,58 @@ number_of-below : (q : List ℕ) (ds : List Declared) (j : ℕ) → number_of q 
 number_of-below q [] j e = absurd cc
 number_of-below q (d ∷ ds) j e = below_step (bytes_eq q d.name) (number_of q ds) j (length ds) (λ i h. number_of-below q ds i h) e
 
-typed_value : (names : List Declared) (value : ExprTree) → IsResolved names value → IsTypedExpr (length names) (plain_expr names value)
-typed_value names (LiteralTree mark value) resolved = tt
-typed_value names (CallTree mark callee name) resolved = rw resolved.1 (number_of-below name names resolved.0 resolved.1)
+zero_fits : FitsSigned w32 (pos 0)
+zero_fits = record { sfits = lit< tt }
 
-typed_functions : (names : List Declared) (fs : List FunctionTree) → AllByRecursion (λ f. IsResolved names f.value) fs → AllByRecursion (IsTypedFunction (length names)) (map (plain_function names) fs)
+typed_call : (names : List Declared) (o : Option Mention) → IsResolved names (option_to_list o) → IsTypedExpr (length names) (plain_call names o)
+typed_call names None resolved = zero_fits
+typed_call names (Some c) resolved = rw resolved.0.1 (number_of-below c.name names resolved.0.0 resolved.0.1)
+
+int_fits : (count : ℕ) (value : ℕ) (b : Bool) → nat_le value 2147483647 ≡ b → IsTypedExpr count (cond b (PlainConstant (pos value)) unbuilt)
+int_fits count value true e = record { sfits = omega (arith, leb-true value 2147483647 e) }
+int_fits count value false e = zero_fits
+
+typed_int : (count : ℕ) (s : Scalar) (value : ℕ) → IsTypedExpr count (cond (is_int_literal s value) (PlainConstant (pos value)) unbuilt)
+typed_int count scalar.Int value = int_fits count value (nat_le value 2147483647) refl
+typed_int count scalar.Bool value = zero_fits
+typed_int count scalar.Unsigned value = zero_fits
+typed_int count scalar.LongLong value = zero_fits
+typed_int count scalar.ULongLong value = zero_fits
+
+typed_unary : (count : ℕ) (op : UnaryOperator) (e : PlainExpr) → IsTypedExpr count e → IsTypedExpr count (plain_unary op e)
+typed_unary count unary.Plus e typed = typed
+typed_unary count unary.Minus e typed = typed
+typed_unary count unary.Complement e typed = typed
+typed_unary count unary.Not e typed = zero_fits
+typed_unary count unary.Increment e typed = zero_fits
+typed_unary count unary.Decrement e typed = zero_fits
+
+typed_binary : (count : ℕ) (q : Option PlainOperator) (l r : PlainExpr) → IsTypedExpr count l → IsTypedExpr count r → IsTypedExpr count (plain_binary q l r)
+typed_binary count None l r left right = zero_fits
+typed_binary count (Some p) l r left right = (left, right)
+
+typed_value : (names : List Declared) (e : ExprTree) → IsResolved names (calls_in e) → IsTypedExpr (length names) (plain_expr names e)
+typed_value names (IntTree m s value) resolved = typed_int (length names) s value
+typed_value names (CallTree m callee arguments) resolved = typed_call names (mention_of callee arguments) resolved
+typed_value names (GroupTree m inner) resolved = typed_value names inner resolved
+typed_value names (UnaryTree m op operand) resolved = typed_unary (length names) op (plain_expr names operand) (typed_value names operand resolved)
+typed_value names (BinaryTree m op left right) resolved =
+    let both = resolved_split names (calls_in left) (calls_in right) resolved in
+    typed_binary (length names) (plain_operator op) (plain_expr names left) (plain_expr names right) (typed_value names left both.0) (typed_value names right both.1)
+typed_value names (BoolTree m v) resolved = zero_fits
+typed_value names (NameTree m v) resolved = zero_fits
+typed_value names (TemplateTree m v as') resolved = zero_fits
+typed_value names (QualifiedTree m t ns) resolved = zero_fits
+typed_value names (ListTree m t is) resolved = zero_fits
+typed_value names (StaticCastTree m t o) resolved = zero_fits
+typed_value names (IsSameTree m l r) resolved = zero_fits
+typed_value names (OutTree m o) resolved = zero_fits
+typed_value names (MemberTree m o v) resolved = zero_fits
+typed_value names (PostfixTree m p o) resolved = zero_fits
+typed_value names (ConditionalTree m c t o) resolved = zero_fits
+typed_value names (AssignmentTree m p t v) resolved = zero_fits
+
+typed_functions : (names : List Declared) (fs : List FunctionTree) → AllByRecursion (λ f. IsResolved names (calls_in f.value)) fs → AllByRecursion (IsTypedFunction (length names)) (map (plain_function names) fs)
 typed_functions names [] all = tt
 typed_functions names (f ∷ fs) all = (typed_value names f.value all.0, typed_functions names fs all.1)
 

@@ -1,5 +1,5 @@
 -- The names of a unit, found one function after the other.
-use Rattle.std.proofs.Common.{◌≡◌, ℕ, ◌+◌, ◌<◌, ◌≤◌, List, [], ◌∷◌, ◌++◌, length, get_or, take, drop, Result, Ok, refl, ap, sym, ◌∙◌, subst}
+use Rattle.std.proofs.Common.{◌≡◌, ℕ, ◌+◌, ◌<◌, ◌≤◌, List, [], ◌∷◌, ◌++◌, length, get_or, take, drop, Result, Ok, Err, refl, ap, sym, ◌∙◌, subst}
 use Rattle.std.specs.Prelude.{map}
 use Rattle.std.proofs.lemmas.List.{take_more, take_all, drop_more, drop_all, map_push}
 use Rattle.cx_base.specs.Refusal.{Refusal, Stops, ◌>>=◌}
@@ -7,7 +7,8 @@ use Rattle.cx_base.specs.declared.stop.Stop.{Stop}
 use Rattle.cx_base.specs.declared.stop.Stop.TheVariants as stop
 use Rattle.cx_tree.specs.declared.function.Function.{Function}
 use Rattle.cx_tree.specs.UnitTree.{FunctionTree, function_tree}
-use Rattle.cx_engine.specs.Names.{Declared, declared, names_function, names_functions}
+use Rattle.cx_engine.specs.Forms.{Mention}
+use Rattle.cx_engine.specs.Names.{Declared, declared, declaration_of, is_known, names_called, names_function, names_functions}
 
 abbrev pub trees : List Function → List FunctionTree
 trees fs = map function_tree fs
@@ -16,6 +17,16 @@ trees fs = map function_tree fs
 pub record Resolving (fs : List Function) (i : ℕ) (names : List Declared) : Type 0 where
   pub so_far : names ≡ map declared (trees (take i fs))
   pub rest : names_functions names (trees (drop i fs)) ≡ names_functions [] (trees fs)
+
+-- the names of one part behind those of another
+then_same : {B : Type 0} (m : Result (Unit {0}) Refusal) (k : Result (Unit {0}) Refusal) (r l : Result B Refusal) → ((x : Unit {0}) → r ≡ (k >>= λ _. l)) → (m >>= λ _. r) ≡ ((m >>= λ _. k) >>= λ _. l)
+then_same (Ok x) k r l h = h x
+then_same (Err e) k r l h = refl
+
+pub names_called_append : (names : List Declared) (cs ds : List Mention) → names_called names (cs ++ ds) ≡ (names_called names cs >>= λ _. names_called names ds)
+unfolding names_called
+names_called_append names [] ds = refl
+names_called_append names (c ∷ cs) ds = then_same (is_known c.at (declaration_of c.name names)) (names_called names cs) (names_called names (cs ++ ds)) (names_called names ds) (λ x. names_called_append names cs ds)
 
 -- a stage that stops stops what comes behind it
 pub Stops-then : {A B : Type 0} (e : Stop) (m : Result A Refusal) (f : A → Result B Refusal) → Stops e m → Stops e (m >>= f)

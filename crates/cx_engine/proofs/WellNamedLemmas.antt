@@ -1,6 +1,7 @@
 -- The stage of names against the unit by the numbers of its functions.
 use Rattle.std.proofs.Common.{◌≡◌, ℕ, zero, suc, ◌+◌, ◌<◌, Bool, true, false, cond, List, [], ◌∷◌, ◌++◌, length, Option, Some, None, Result, Ok, Err, ◌⊎◌, inl, inr, take, refl, ap, sym, ◌∙◌, subst, arith, append_assoc, append-nil, length-append}
 use Rattle.std.specs.Prelude.{map, slice_get}
+use Rattle.std.specs.List.{AllByRecursion}
 use Rattle.std.specs.Str.{bytes_eq}
 use Rattle.std.proofs.lemmas.Slice.Eq.{bytes_eq-Decides}
 use Rattle.std.proofs.lemmas.List.{map_push}
@@ -9,10 +10,10 @@ use Rattle.std.proofs.Math.Seq.{take-append_seam}
 use Rattle.cx_base.specs.Refusal.{Refusal, Refused, Passed, ◌>>=◌}
 use Rattle.cx_base.specs.declared.fault.Fault.{Fault}
 use Rattle.cx_base.specs.declared.kind.Kind.TheVariants as kind
-use Rattle.cx_base.specs.declared.place.Place.{Place}
-use Rattle.cx_tree.specs.UnitTree.{ExprTree, LiteralTree, CallTree, FunctionTree, UnitTree}
-use Rattle.cx_engine.specs.Names.{Declared, declared, declaration_of, redeclared, is_new, is_known, names_value, names_function, names_functions, names_unit}
-use Rattle.cx_engine.specs.WellNamed.{Calls, IsAmongFirst, IsWellNamed, Redeclares, CallsUnknown}
+use Rattle.cx_tree.specs.UnitTree.{FunctionTree, UnitTree}
+use Rattle.cx_engine.specs.Forms.{Mention}
+use Rattle.cx_engine.specs.Names.{Declared, declared, declaration_of, redeclared, is_new, is_known, calls_in, names_called, names_function, names_functions, names_unit}
+use Rattle.cx_engine.specs.WellNamed.{IsAmongFirst, IsWellNamed, Redeclares, CallsUnknown}
 
 -- ---- elements of a list by their numbers
 
@@ -82,8 +83,25 @@ more n pre gs q h = record { number = h.number; function = h.function; within = 
 up_to_last : (pre : List FunctionTree) (g : FunctionTree) (i : ℕ) (f : FunctionTree) → slice_get (pre ++ g ∷ []) i ≡ Some f → (slice_get pre i ≡ Some f) ⊎ ((i ≡ length pre) × (g ≡ f))
 up_to_last pre g i f e = up_to pre g [] i f (omega (arith, slice_get_within (pre ++ g ∷ []) i f e, length-append pre (g ∷ []))) e
 
+-- each of these calls names one of the first n functions
+abbrev AllKnown : ℕ → List FunctionTree → List Mention → Type 0
+AllKnown n u cs = AllByRecursion (λ c. IsAmongFirst n u c.name) cs
+
 abbrev CallsKnown : List FunctionTree → FunctionTree → Type 0
-CallsKnown pre g = (name : List ℕ) (at : Place) → Calls g.value name at → IsAmongFirst (length pre + 1) (pre ++ g ∷ []) name
+CallsKnown pre g = AllKnown (length pre + 1) (pre ++ g ∷ []) (calls_in g.value)
+
+all_more : (n : ℕ) (pre gs : List FunctionTree) (cs : List Mention) → AllKnown n pre cs → AllKnown n (pre ++ gs) cs
+all_more n pre gs [] all = tt
+all_more n pre gs (c ∷ cs) all = (more n pre gs c.name all.0, all_more n pre gs cs all.1)
+
+-- one call more that is known
+known_push : (n : ℕ) (u : List FunctionTree) (cs : List Mention) (c : Mention) → AllKnown n u cs → IsAmongFirst n u c.name → AllKnown n u (cs ++ c ∷ [])
+known_push n u [] c all known = (known, tt)
+known_push n u (d ∷ ds) c all known = (all.0, known_push n u ds c all.1 known)
+
+known_in : (n : ℕ) (u : List FunctionTree) (cs : List Mention) (c : Mention) (ds : List Mention) → AllKnown n u (cs ++ c ∷ ds) → IsAmongFirst n u c.name
+known_in n u [] c ds all = all.0
+known_in n u (d ∷ cs) c ds all = known_in n u cs c ds all.1
 
 once_more : (pre : List FunctionTree) (g : FunctionTree) → IsWellNamed pre → IsNew pre g.name
     → (i j : ℕ) (f h : FunctionTree) → slice_get (pre ++ g ∷ []) i ≡ Some f → slice_get (pre ++ g ∷ []) j ≡ Some h → f.name ≡ h.name → i ≡ j
@@ -96,18 +114,18 @@ once_more pre g fine new i j f h at-i at-j same = by (up_to_last pre g i f at-i)
     by (inr x) (inr y) = x.0 ∙ sym y.0
 
 known_more : (pre : List FunctionTree) (g : FunctionTree) → IsWellNamed pre → CallsKnown pre g
-    → (j : ℕ) (f : FunctionTree) (name : List ℕ) (at : Place) → slice_get (pre ++ g ∷ []) j ≡ Some f → Calls f.value name at → IsAmongFirst (j + 1) (pre ++ g ∷ []) name
-known_more pre g fine known j f name at at-j calls = by (up_to_last pre g j f at-j)
+    → (j : ℕ) (f : FunctionTree) → slice_get (pre ++ g ∷ []) j ≡ Some f → AllKnown (j + 1) (pre ++ g ∷ []) (calls_in f.value)
+known_more pre g fine known j f at-j = by (up_to_last pre g j f at-j)
   where
-    by : ((slice_get pre j ≡ Some f) ⊎ ((j ≡ length pre) × (g ≡ f))) → IsAmongFirst (j + 1) (pre ++ g ∷ []) name
-    by (inl x) = more (j + 1) pre (g ∷ []) name (fine.known j f name at x calls)
-    by (inr x) = subst (λ (k : ℕ). IsAmongFirst (k + 1) (pre ++ g ∷ []) name) (sym x.0) (known name at (subst (λ (t : FunctionTree). Calls t.value name at) (sym x.1) calls))
+    by : ((slice_get pre j ≡ Some f) ⊎ ((j ≡ length pre) × (g ≡ f))) → AllKnown (j + 1) (pre ++ g ∷ []) (calls_in f.value)
+    by (inl x) = all_more (j + 1) pre (g ∷ []) (calls_in f.value) (fine.known j f x)
+    by (inr x) = subst (λ (k : ℕ). AllKnown (k + 1) (pre ++ g ∷ []) (calls_in f.value)) (sym x.0) (subst (λ (t : FunctionTree). AllKnown (length pre + 1) (pre ++ g ∷ []) (calls_in t.value)) x.1 known)
 
 one_more : (pre : List FunctionTree) (g : FunctionTree) → IsWellNamed pre → IsNew pre g.name → CallsKnown pre g → IsWellNamed (pre ++ g ∷ [])
 one_more pre g fine new known = record { once = once_more pre g fine new; known = known_more pre g fine known }
 
 nothing : IsWellNamed []
-nothing = record { once = λ i j f g x y same. absurd cc; known = λ j f name at x calls. absurd cc }
+nothing = record { once = λ i j f g x y same. absurd cc; known = λ j f x. absurd cc }
 
 -- ---- what the stage finds
 
@@ -169,36 +187,40 @@ found_among pre g q d e =
       named = found.named;
     }
 
-by_call : (pre : List FunctionTree) (g : FunctionTree) (gs : List FunctionTree) (rest : Result (Unit {0}) Refusal) (q : List ℕ) (at : Place) (o : Option Declared) → IsWellNamed pre → IsNew pre g.name
-    → Calls g.value q at → ((name : List ℕ) (p : Place) → Calls g.value name p → q ≡ name) → declaration_of q (map declared (pre ++ g ∷ [])) ≡ o
-    → (IsWellNamed (pre ++ g ∷ []) → IsJudged (pre ++ g ∷ gs) rest) → IsJudged (pre ++ g ∷ gs) (is_known at o >>= λ _. rest)
+-- a call, behind others that are known
+by_call : (pre : List FunctionTree) (g : FunctionTree) (gs : List FunctionTree) (before : List Mention) (c : Mention) (after : List Mention) (others rest : Result (Unit {0}) Refusal) (o : Option Declared) → IsWellNamed pre → IsNew pre g.name
+    → calls_in g.value ≡ before ++ c ∷ after → AllKnown (length pre + 1) (pre ++ g ∷ []) before → declaration_of c.name (map declared (pre ++ g ∷ [])) ≡ o
+    → (IsAmongFirst (length pre + 1) (pre ++ g ∷ []) c.name → IsJudged (pre ++ g ∷ gs) (others >>= λ _. rest)) → IsJudged (pre ++ g ∷ gs) ((is_known c.at o >>= λ _. others) >>= λ _. rest)
 unfolding is_known
-by_call pre g gs rest q at None fine new calls alone e h = inr (
-  length pre,
-  record {
-    caller = g;
-    name = q;
-    at = at;
-    before = before_seam pre (g ∷ gs) fine;
-    there = next pre g gs;
-    new = own_new pre g gs new;
-    calls = calls;
-    unknown = still_unknown pre g gs q (is_new-None (pre ++ g ∷ []) q e);
-    says = refl;
-  },
-)
-by_call pre g gs rest q at (Some d) fine new calls alone e h =
-    h (one_more pre g fine new (λ name p c. subst (IsAmongFirst (length pre + 1) (pre ++ g ∷ [])) (alone name p c) (found_among pre g q d e)))
+by_call pre g gs before c after others rest None fine new calls known e h =
+    let seam : (pre ++ g ∷ []) ++ gs ≡ pre ++ g ∷ gs = append_assoc pre (g ∷ []) gs in
+    inr (
+      length pre,
+      record {
+        caller = g;
+        earlier = before;
+        call = c;
+        later = after;
+        before = before_seam pre (g ∷ gs) fine;
+        there = next pre g gs;
+        new = own_new pre g gs new;
+        calls = calls;
+        known = subst (λ (u : List FunctionTree). AllKnown (length pre + 1) u before) seam (all_more (length pre + 1) (pre ++ g ∷ []) gs before known);
+        unknown = still_unknown pre g gs c.name (is_new-None (pre ++ g ∷ []) c.name e);
+        says = refl;
+      },
+    )
+by_call pre g gs before c after others rest (Some d) fine new calls known e h = h (found_among pre g c.name d e)
 
-by_value : (pre : List FunctionTree) (g : FunctionTree) (gs : List FunctionTree) (rest : Result (Unit {0}) Refusal) (value : ExprTree) → IsWellNamed pre → IsNew pre g.name → g.value ≡ value
-    → (IsWellNamed (pre ++ g ∷ []) → IsJudged (pre ++ g ∷ gs) rest) → IsJudged (pre ++ g ∷ gs) (names_value (map declared (pre ++ g ∷ [])) value >>= λ _. rest)
-unfolding names_value
-by_value pre g gs rest (LiteralTree mark value) fine new is h = h (one_more pre g fine new (λ name at calls. absurd (subst (λ (v : ExprTree). Calls v name at) is calls)))
-by_value pre g gs rest (CallTree mark callee q) fine new is h =
-    by_call pre g gs rest q callee.at (declaration_of q (map declared (pre ++ g ∷ []))) fine new
-    (subst (λ (v : ExprTree). Calls v q callee.at) (sym is) (refl, refl))
-    (λ name at calls. (subst (λ (v : ExprTree). Calls v name at) is calls).0)
-    refl h
+by_calls : (pre : List FunctionTree) (g : FunctionTree) (gs : List FunctionTree) (rest : Result (Unit {0}) Refusal) → IsWellNamed pre → IsNew pre g.name → (IsWellNamed (pre ++ g ∷ []) → IsJudged (pre ++ g ∷ gs) rest)
+    → (before cs : List Mention) → calls_in g.value ≡ before ++ cs → AllKnown (length pre + 1) (pre ++ g ∷ []) before → IsJudged (pre ++ g ∷ gs) (names_called (map declared (pre ++ g ∷ [])) cs >>= λ _. rest)
+unfolding names_called
+by_calls pre g gs rest fine new h before [] calls known =
+    let all : calls_in g.value ≡ before = calls ∙ append-nil before in
+    h (one_more pre g fine new (subst (AllKnown (length pre + 1) (pre ++ g ∷ [])) (sym all) known))
+by_calls pre g gs rest fine new h before (c ∷ cs) calls known =
+    by_call pre g gs before c cs (names_called (map declared (pre ++ g ∷ [])) cs) rest (declaration_of c.name (map declared (pre ++ g ∷ []))) fine new calls known refl
+    (λ here. by_calls pre g gs rest fine new h (before ++ c ∷ []) cs (calls ∙ sym (append_assoc before (c ∷ []) cs)) (known_push (length pre + 1) (pre ++ g ∷ []) before c known here))
 
 by_function : (pre : List FunctionTree) (g : FunctionTree) (gs : List FunctionTree) → IsWellNamed pre
     → (IsWellNamed (pre ++ g ∷ []) → IsJudged ((pre ++ g ∷ []) ++ gs) (names_functions (map declared (pre ++ g ∷ [])) gs)) → IsJudged (pre ++ g ∷ gs) (names_functions (map declared pre) (g ∷ gs))
@@ -208,9 +230,9 @@ by_function pre g gs fine h =
     let seam : (pre ++ g ∷ []) ++ gs ≡ pre ++ g ∷ gs = append_assoc pre (g ∷ []) gs in
     let last : map declared (pre ++ g ∷ []) ≡ map declared pre ++ declared g ∷ [] = map_push declared pre g in
     let later : IsWellNamed (pre ++ g ∷ []) → IsJudged (pre ++ g ∷ gs) (names_functions (map declared (pre ++ g ∷ [])) gs) = λ w. subst (λ (u : List FunctionTree). IsJudged u (names_functions (map declared (pre ++ g ∷ [])) gs)) seam (h w) in
-    by_name pre g gs (names_value names g.value) (names_functions names gs) (declaration_of g.name (map declared pre)) fine refl
-    (λ new. subst (λ (all : List Declared). IsJudged (pre ++ g ∷ gs) (names_value all g.value >>= λ _. names_functions all gs)) last
-    (by_value pre g gs (names_functions (map declared (pre ++ g ∷ [])) gs) g.value fine (is_new-None pre g.name new) refl later))
+    by_name pre g gs (names_called names (calls_in g.value)) (names_functions names gs) (declaration_of g.name (map declared pre)) fine refl
+    (λ new. subst (λ (all : List Declared). IsJudged (pre ++ g ∷ gs) (names_called all (calls_in g.value) >>= λ _. names_functions all gs)) last
+    (by_calls pre g gs (names_functions (map declared (pre ++ g ∷ [])) gs) fine (is_new-None pre g.name new) later [] (calls_in g.value) refl tt))
 
 judged : (pre gs : List FunctionTree) → IsWellNamed pre → IsJudged (pre ++ gs) (names_functions (map declared pre) gs)
 unfolding names_functions
@@ -233,7 +255,7 @@ no_redeclared : (u : UnitTree) (fault : Fault) (i j : ℕ) → IsWellNamed u →
 no_redeclared u fault i j w d = omega (arith, d.order, w.once i j d.earlier d.later d.declares d.declares_again d.same_name)
 
 no_unknown : (u : UnitTree) (fault : Fault) (j : ℕ) → IsWellNamed u → CallsUnknown u fault j → ⊥
-no_unknown u fault j w d = d.unknown (w.known j d.caller d.name d.at d.there d.calls)
+no_unknown u fault j w d = d.unknown (known_in (j + 1) u d.earlier d.call d.later (subst (AllKnown (j + 1) u) d.calls (w.known j d.caller d.there)))
 
 only_by : (u : UnitTree) (r : Result (Unit {0}) Refusal) → IsWellNamed u → IsJudged u r → r ≡ Ok tt
 only_by u (Ok x) w h = refl

@@ -1,12 +1,14 @@
 -- Which names a unit declares ([basic.scope], [basic.lookup.unqual]), and its first fault of names.
-use Rattle.std.specs.Prelude.{ℕ, ◌+◌, List, [], ◌∷◌, ◌++◌, Option, Some, None, Result, Ok, Err, if◌then◌else◌}
+use Rattle.std.specs.Prelude.{ℕ, ◌+◌, List, [], ◌∷◌, ◌++◌, Option, Some, None, option_to_list, Result, Ok, Err, if◌then◌else◌}
 use Rattle.std.specs.Option.{option_map}
 use Rattle.std.specs.Str.{bytes_eq}
 use Rattle.cx_base.specs.Refusal.{Refusal, Refused, ◌>>=◌}
 use Rattle.cx_base.specs.declared.fault.Fault.{Fault}
 use Rattle.cx_base.specs.declared.kind.Kind.TheVariants as fault
 use Rattle.cx_base.specs.declared.place.Place.{Place}
-use Rattle.cx_tree.specs.UnitTree.{ExprTree, LiteralTree, CallTree, FunctionTree, UnitTree}
+use Rattle.cx_tree.specs.Trees.{ExprTree, GroupTree, CallTree, UnaryTree, BinaryTree}
+use Rattle.cx_tree.specs.UnitTree.{FunctionTree, UnitTree}
+use Rattle.cx_engine.specs.Forms.{Mention, mention_of}
 
 -- A name, and where it is declared.
 pub record Declared : Type 0 where
@@ -44,16 +46,26 @@ unfoldable pub is_known : Place → Option Declared → Result (Unit {0}) Refusa
 is_known at None = Err (Refused (unknown_name at))
 is_known at (Some d) = Ok tt
 
--- The names of a value are declared.
-unfoldable pub names_value : List Declared → ExprTree → Result (Unit {0}) Refusal
-names_value names (LiteralTree mark value) = Ok tt
-names_value names (CallTree mark callee name) = is_known callee.at (declaration_of name names)
+-- The names that an expression calls, in the order of the text.
+abbrev pub calls_in : ExprTree → List Mention
+calls_in (CallTree m callee arguments) = option_to_list (mention_of callee arguments)
+calls_in (GroupTree m inner) = calls_in inner
+calls_in (UnaryTree m operator operand) = calls_in operand
+calls_in (BinaryTree m operator left right) = calls_in left ++ calls_in right
+calls_in other = []
+
+-- These names are declared.
+unfoldable pub names_called : List Declared → List Mention → Result (Unit {0}) Refusal
+names_called names [] = Ok tt
+names_called names (c ∷ cs) = do
+  _ ← is_known c.at (declaration_of c.name names)
+  names_called names cs
 
 -- A function behind these declarations: its name is new, and its body names those and itself.
 unfoldable pub names_function : List Declared → FunctionTree → Result (Unit {0}) Refusal
 names_function names f = do
   _ ← is_new f.mark.at (declaration_of f.name names)
-  names_value (names ++ declared f ∷ []) f.value
+  names_called (names ++ declared f ∷ []) (calls_in f.value)
 
 -- The first fault of names of the functions behind these declarations, in unit order.
 unfoldable pub names_functions : List Declared → List FunctionTree → Result (Unit {0}) Refusal

@@ -1,8 +1,9 @@
-//! The faults of names.
+//! The faults of forms and of names.
 
 ghost use Rattle.std.specs.Prelude.{◌≡◌, [], ◌∷◌};
 ghost use Rattle.cx_base.specs.declared.stop.Stop.TheVariants as stop;
 ghost use Rattle.cx_engine.specs.Names.{redeclared, unknown_name};
+ghost use Rattle.cx_engine.specs.Forms.{unsupported};
 
 use cx_base::{Fault, Kind, Place, Places, Stop};
 use std::alloc::Global;
@@ -34,6 +35,18 @@ pub fn unknown_name(alloc: Global, at: Place) -> Stop
 {
     Stop::Fault(Fault {
         kind: Kind::UnknownName,
+        at,
+        also: Places::new(alloc),
+        chain: Places::new(alloc),
+    })
+}
+
+/// A form that is not built.
+pub fn unsupported(alloc: Global, at: Place) -> Stop
+    ensures { result ≡ stop.Fault (unsupported at) }
+{
+    Stop::Fault(Fault {
+        kind: Kind::Unsupported,
         at,
         also: Places::new(alloc),
         chain: Places::new(alloc),

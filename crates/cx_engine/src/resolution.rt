@@ -2,10 +2,12 @@
 
 ghost use Rattle.std.specs.Prelude.{◌≡◌, [], ◌∷◌, ◌++◌, map, IfOk, OnOk};
 ghost use Rattle.cx_base.specs.Refusal.{Gives};
-ghost use Rattle.cx_tree.specs.UnitTree.{expr_tree, function_tree, unit_tree};
-ghost use Rattle.cx_engine.specs.Names.{declaration_of, declared, is_new, is_known, names_value, names_function, names_unit};
+ghost use Rattle.cx_tree.specs.Trees.{expr_tree};
+ghost use Rattle.cx_tree.specs.UnitTree.{function_tree, unit_tree};
+ghost use Rattle.cx_engine.specs.Names.{declaration_of, declared, is_new, is_known, calls_in, names_called, names_function, names_unit};
 
 use crate::faults::{redeclared, unknown_name};
+use crate::forms::called_name;
 use crate::names::Names;
 use cx_base::{Place, Stop};
 use cx_tree::{Expr, Function, Unit};
@@ -34,14 +36,27 @@ fn find<'s>(alloc: Global, names: &Names<'s>, name: &'s str, at: Place) -> Resul
     }
 }
 
-/// Finds the names of a value.
-#[tactic(auto, unfolding(crate::specs::Names::names_value))]
-fn resolve_value<'s>(alloc: Global, names: &Names<'s>, value: &Expr<'s>) -> Result<(), Stop>
-    ensures { Gives (λ _. tt) result (names_value names.now (expr_tree value.now)) }
+/// Finds the names that an expression calls, in the order of the text.
+#[tactic(auto, using(crate::proofs::ResolutionLemmas::names_called_append), unfolding(crate::specs::Names::names_called))]
+fn resolve_calls<'s>(alloc: Global, names: &Names<'s>, expr: &Expr<'s>) -> Result<(), Stop>
+    ensures { Gives (λ _. tt) result (names_called names.now (calls_in (expr_tree expr.now))) }
 {
-    match value {
-        Expr::Literal(_) => Ok(()),
-        Expr::Call(call) => find(alloc, names, call.callee.text, call.callee.at),
+    match expr {
+        Expr::Call {
+            callee,
+            arguments,
+            ..
+        } => match called_name(callee, arguments) {
+            Some(called) => find(alloc, names, called.name, called.at),
+            None => Ok(()),
+        },
+        Expr::Group { inner, .. } => resolve_calls(alloc, names, inner),
+        Expr::Unary { operand, .. } => resolve_calls(alloc, names, operand),
+        Expr::Binary { left, right, .. } => {
+            resolve_calls(alloc, names, left)?;
+            resolve_calls(alloc, names, right)
+        }
+        _ => Ok(()),
     }
 }
 
@@ -56,7 +71,7 @@ fn resolve_function<'s>(
     ensures adds { OnOk result (names.new ≡ names.old ++ declared (function_tree function.now) ∷ []) }
 {
     declare(alloc, names, function.name, function.at)?;
-    resolve_value(alloc, names, &function.body.statement.value)
+    resolve_calls(alloc, names, &function.body.statement.value)
 }
 
 /// The names of a unit, in order. Refuses at its first fault of names, in unit order.

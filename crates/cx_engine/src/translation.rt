@@ -1,20 +1,26 @@
 //! The plain unit of a source.
 
 ghost use Rattle.std.specs.Prelude.{◌≡◌, ◌^◌, ◌<◌, length, map, unwrap_or, IfOk, OnErr, IsErrOf};
-ghost use Rattle.std.specs.List.{AllByRecursion};
+ghost use Rattle.std.specs.Option.{option_map};
 ghost use Rattle.cx_base.specs.Refusal.{Gives};
 ghost use Rattle.cx_base.specs.declared.stop.Stop.TheVariants.{NoMemory};
+ghost use Rattle.cx_plain.specs.PlainTree.{expr_view, function_view, plain_tree};
 ghost use Rattle.cx_plain.specs.PlainTyping.{IsTyped};
-ghost use Rattle.cx_tree.specs.UnitTree.{expr_tree, function_tree, unit_tree, IsIntValue, HasIntValue};
+ghost use Rattle.cx_tree.specs.Trees.{expr_tree};
+ghost use Rattle.cx_tree.specs.UnitTree.{function_tree, unit_tree};
 ghost use Rattle.cx_engine.specs.Names.{number_of};
-ghost use Rattle.cx_engine.specs.Plain.{plain_expr, plain_function, translated};
+ghost use Rattle.cx_engine.specs.Plain.{plain_call, plain_unary, plain_binary, plain_expr, plain_function, translated};
 ghost use Rattle.cx_engine.specs.SourceMeaning.{Means};
 
+use crate::forms::{Mention, called_name, check_forms, is_int_literal, plain_operator};
 use crate::names::Names;
 use crate::resolution::resolve_unit;
 use cx_base::{List, Stop, Text};
-use cx_plain::{Expr as PlainExpr, Function as PlainFunction, PlainUnit, Stmt};
-use cx_tree::{Expr, Function, Unit};
+use cx_plain::{
+    BinaryOperator as PlainBinary, Expr as PlainExpr, Function as PlainFunction, PlainUnit, Stmt,
+    UnaryOperator as PlainUnary,
+};
+use cx_tree::{Expr, Function, UnaryOperator, Unit};
 use std::alloc::Global;
 
 /// What a unit is translated to.
@@ -23,15 +29,91 @@ pub struct Translation {
     pub plain: PlainUnit,
 }
 
-/// A value: its constant, or a call by the number of the function that it names.
-fn plain_value<'s>(names: &Names<'s>, value: &Expr<'s>) -> PlainExpr
+/// What stands in the place of a form that is not built.
+const UNBUILT: i32 = 0;
+
+/// A call by the number of the function that it names.
+fn plain_call<'s>(names: &Names<'s>, call: Option<Mention<'s>>) -> PlainExpr
     requires room { length names.now < 2 ^ 32 }
-    requires int { IsIntValue (expr_tree value.now) }
-    ensures { result ≡ plain_expr names.now (expr_tree value.now) }
+    ensures { expr_view result ≡ plain_call names.now (option_map (λ m. record { name = m.name.now; at = m.at }) call.entry) }
 {
-    match value {
-        Expr::Literal(literal) => PlainExpr::Constant(literal.value as i32),
-        Expr::Call(call) => PlainExpr::Call(number_of(names, call.callee.text)),
+    match call {
+        Some(called) => PlainExpr::Call(number_of(names, called.name)),
+        None => PlainExpr::Constant(UNBUILT),
+    }
+}
+
+/// A unary operator with its operand; a unary plus is its operand. Refuses for want of memory alone.
+fn plain_unary(
+    alloc: Global,
+    operator: UnaryOperator,
+    operand: PlainExpr,
+) -> Result<PlainExpr, Stop>
+    ensures ok { IfOk result (λ e. expr_view e ≡ plain_unary operator (expr_view operand)) }
+    ensures only_memory { OnErr result (IsErrOf result NoMemory) }
+{
+    let operator = match operator {
+        UnaryOperator::Plus => return Ok(operand),
+        UnaryOperator::Minus => PlainUnary::Minus,
+        UnaryOperator::Complement => PlainUnary::Complement,
+        _ => return Ok(PlainExpr::Constant(UNBUILT)),
+    };
+    Ok(PlainExpr::Unary(operator, Box::new(alloc, operand)?))
+}
+
+/// A binary operator with its operands. Refuses for want of memory alone.
+fn plain_binary(
+    alloc: Global,
+    operator: Option<PlainBinary>,
+    left: PlainExpr,
+    right: PlainExpr,
+) -> Result<PlainExpr, Stop>
+    ensures ok { IfOk result (λ e. expr_view e ≡ plain_binary operator (expr_view left) (expr_view right)) }
+    ensures only_memory { OnErr result (IsErrOf result NoMemory) }
+{
+    let Some(operator) = operator else {
+        return Ok(PlainExpr::Constant(UNBUILT));
+    };
+    let left = Box::new(alloc, left)?;
+    let right = Box::new(alloc, right)?;
+    Ok(PlainExpr::Binary(operator, left, right))
+}
+
+/// An expression over the names of its unit. Refuses for want of memory alone.
+fn plain_expr<'s>(alloc: Global, names: &Names<'s>, expr: &Expr<'s>) -> Result<PlainExpr, Stop>
+    requires room { length names.now < 2 ^ 32 }
+    ensures ok { IfOk result (λ e. expr_view e ≡ plain_expr names.now (expr_tree expr.now)) }
+    ensures only_memory { OnErr result (IsErrOf result NoMemory) }
+{
+    match expr {
+        Expr::Int { scalar, value, .. } if is_int_literal(*scalar, *value) => Ok(
+            PlainExpr::Constant(*value as i32),
+        ),
+        Expr::Call {
+            callee,
+            arguments,
+            ..
+        } => Ok(plain_call(names, called_name(callee, arguments))),
+        Expr::Group { inner, .. } => plain_expr(alloc, names, inner),
+        Expr::Unary {
+            operator,
+            operand,
+            ..
+        } => {
+            let operand = plain_expr(alloc, names, operand)?;
+            plain_unary(alloc, *operator, operand)
+        }
+        Expr::Binary {
+            operator,
+            left,
+            right,
+            ..
+        } => {
+            let left = plain_expr(alloc, names, left)?;
+            let right = plain_expr(alloc, names, right)?;
+            plain_binary(alloc, plain_operator(*operator), left, right)
+        }
+        _ => Ok(PlainExpr::Constant(UNBUILT)),
     }
 }
 
@@ -53,12 +135,11 @@ fn plain_function<'s>(
     function: &Function<'s>,
 ) -> Result<PlainFunction, Stop>
     requires room { length names.now < 2 ^ 32 }
-    requires int { HasIntValue (function_tree function.now) }
-    ensures ok { IfOk result (λ f. f ≡ plain_function names.now (function_tree function.now)) }
+    ensures ok { IfOk result (λ f. function_view f ≡ plain_function names.now (function_tree function.now)) }
     ensures only_memory { OnErr result (IsErrOf result NoMemory) }
 {
     let name = Text::from_str(alloc, function.name)?;
-    let value = plain_value(names, &function.body.statement.value);
+    let value = plain_expr(alloc, names, &function.body.statement.value)?;
     Ok(PlainFunction {
         name,
         body: Stmt::Return(value),
@@ -72,8 +153,7 @@ fn plain_functions<'s>(
     functions: &[Function<'s>],
 ) -> Result<Vec<PlainFunction>, Stop>
     requires room { length names.now < 2 ^ 32 }
-    requires ints { AllByRecursion HasIntValue (map function_tree functions.now) }
-    ensures ok { IfOk result (λ v. v.items ≡ map (plain_function names.now) (map function_tree functions.now)) }
+    ensures ok { IfOk result (λ v. map function_view v.items ≡ map (plain_function names.now) (map function_tree functions.now)) }
     ensures only_memory { OnErr result (IsErrOf result NoMemory) }
 {
     let mut plain = Vec::new(alloc);
@@ -85,20 +165,21 @@ fn plain_functions<'s>(
 
 /// The plain unit of a unit: its functions in unit order, each call by the number of the function that it names.
 ///
-/// Refuses as Redeclared where a name is declared again, with the earlier place in `also`, and as UnknownName where a
+/// Refuses as Unsupported at the first form that is not built, in the order of the text, a node before its parts. Else
+/// as Redeclared where a name is declared again, with the earlier place in `also`, and as UnknownName where a
 /// call names what is not declared before ([basic.lookup.unqual]): the first of these in unit order. Else it refuses
 /// for want of memory alone.
 #[tactic(auto, unfolding(crate::specs::Plain::translated))]
 pub fn translate_unit(alloc: Global, unit: &Unit) -> Result<Translation, Stop>
     requires room { length (unit_tree unit.now) < 2 ^ 32 }
-    requires ints { AllByRecursion HasIntValue (unit_tree unit.now) }
 
     // Which plain unit it is, or which fault.
-    ensures exact { Gives (λ t. t.plain) result (translated (unit_tree unit.now)) }
-    ensures typed { IfOk result (λ t. IsTyped t.plain) }
+    ensures exact { Gives (λ t. plain_tree t.plain) result (translated (unit_tree unit.now)) }
+    ensures typed { IfOk result (λ t. IsTyped (plain_tree t.plain)) }
     // For every number of steps each of its functions does what the function of the source does.
-    ensures means { IfOk result (λ t. Means (unit_tree unit.now) t.plain) }
+    ensures means { IfOk result (λ t. Means (unit_tree unit.now) (plain_tree t.plain)) }
 {
+    check_forms(alloc, unit)?;
     let names = resolve_unit(alloc, unit)?;
     let functions = plain_functions(alloc, &names, &unit.functions)?;
     Ok(Translation {

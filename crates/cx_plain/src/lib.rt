@@ -5,11 +5,13 @@
 mod body;
 mod laws;
 mod numbered;
+mod operators;
 mod pieces;
 mod printer;
 mod tree;
 
-pub use laws::{one_text, steps, typed_is_defined};
+pub use laws::{arithmetic, one_text, steps, typed_is_defined};
+pub use operators::{BinaryOperator, UnaryOperator};
 pub use printer::print;
 pub use tree::{Expr, Function, Global, PlainUnit, Stmt, Struct};
 

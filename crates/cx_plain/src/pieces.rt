@@ -1,6 +1,7 @@
 //! Numbers, names and heads at the end of a text.
 
 ghost use Rattle.std.specs.Prelude.{◌≡◌, ◌++◌, OnOk, string_bytes, decimal};
+ghost use Rattle.cx_plain.specs.PlainTree.{function_view};
 ghost use Rattle.cx_plain.specs.PlainText.{function_name, constant_text, prototype_text};
 
 use crate::tree::Function;
@@ -36,7 +37,7 @@ pub fn put_name(out: &mut String, number: usize, name: &str) -> Result<(), Alloc
 /// The prototype of a function.
 #[tactic(auto, unfolding(crate::specs::PlainText::prototype_text))]
 pub fn put_prototype(out: &mut String, number: usize, function: &Function) -> Result<(), AllocError>
-    ensures { OnOk result (string_bytes out.new ≡ string_bytes out.old ++ prototype_text number function.now) }
+    ensures { OnOk result (string_bytes out.new ≡ string_bytes out.old ++ prototype_text number (function_view function.now)) }
 {
     out.push_str("int ")?;
     put_name(out, number, function.name.as_str())?;

@@ -1,3 +1,4 @@
+use crate::operators::{BinaryOperator, UnaryOperator};
 use cx_base::{List, Text};
 
 /// A plain unit. What it mentions it names by its number in its list, counted from 0.
@@ -38,4 +39,6 @@ pub enum Expr {
     Constant(i32),
     /// A call of the function of this number.
     Call(u32),
+    Unary(UnaryOperator, Box<Expr>),
+    Binary(BinaryOperator, Box<Expr>, Box<Expr>),
 }

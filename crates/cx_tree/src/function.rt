@@ -1,4 +1,11 @@
-use crate::expr::Expr;
+ghost use Rattle.std.specs.Prelude.{◌≡◌};
+ghost use Rattle.cx_tree.specs.Nodes.{walked};
+ghost use Rattle.cx_tree.specs.UnitTree.{function_tree, function_nodes};
+
+use crate::expression::Expr;
+use crate::places::{walk_expr, walk_type};
+use crate::types::TypeSyn;
+use crate::walk::{Walk, step};
 use cx_base::{NodeId, Place};
 
 /// A definition of a function without parameters ([dcl.fct.def]).
@@ -7,16 +14,9 @@ pub struct Function<'s> {
     pub node: NodeId,
     /// The place of its name.
     pub at: Place,
-    pub result: TypeSyn,
+    pub result: TypeSyn<'s>,
     pub name: &'s str,
     pub body: Block<'s>,
-}
-
-/// A type as it is written: `int`.
-#[derive(Clone, Copy, Debug)]
-pub struct TypeSyn {
-    pub node: NodeId,
-    pub at: Place,
 }
 
 /// A body: its one statement in braces ([stmt.block]).
@@ -35,34 +35,13 @@ pub struct Return<'s> {
     pub value: Expr<'s>,
 }
 
-impl Function<'_> {
-    ghost use Rattle.std.specs.Prelude.{◌≡◌, ◌<◌, length, slice_get, Some};
-    ghost use Rattle.std.specs.Option.{option_map};
-    ghost use Rattle.cx_tree.specs.UnitTree.{function_tree, function_nodes};
-
-    /// How many nodes it has.
-    pub(crate) fn nodes(&self) -> u32
-        ensures { result ≡ length (function_nodes (function_tree self.now)) }
-    {
-        4 + self.body.statement.value.nodes()
-    }
-
-    /// The place of the `n`-th of its nodes.
-    pub(crate) fn place(&self, n: u32) -> Place
-        requires { n < length (function_nodes (function_tree self.now)) }
-        ensures { option_map (λ m. m.at) (slice_get (function_nodes (function_tree self.now)) n) ≡ Some result }
-    {
-        let value = &self.body.statement.value;
-        if n == 0 {
-            return self.result.at;
-        }
-        if n <= value.nodes() {
-            return value.place(n - 1);
-        }
-        match n - 1 - value.nodes() {
-            0 => self.body.statement.at,
-            1 => self.body.at,
-            _ => self.at,
-        }
-    }
+/// The nodes of a function.
+#[tactic(auto, using(crate::proofs::Walks::walked_append))]
+pub(crate) fn walk_function(function: &Function, walk: Walk) -> Walk
+    ensures { result ≡ walked walk (function_nodes (function_tree function.now)) }
+{
+    let walk = walk_type(&function.result, walk);
+    let walk = walk_expr(&function.body.statement.value, walk);
+    let walk = step(walk, function.body.statement.at);
+    step(step(walk, function.body.at), function.at)
 }

@@ -1,104 +1,95 @@
-ghost use Rattle.std.specs.Prelude.{◌≡◌, length};
-ghost use Rattle.cx_tree.specs.UnitTree.{function_tree, function_nodes};
+ghost use Rattle.std.specs.Prelude.{◌≡◌, ◌+◌, ◌<◌, length, IfOk};
+ghost use Rattle.cx_tree.specs.Trees.{expr_tree};
+ghost use Rattle.cx_tree.specs.Nodes.{expr_nodes};
+ghost use Rattle.cx_tree.specs.UnitTree.{function_tree, function_nodes, unit_tree, unit_nodes};
 
 use super::*;
-use cx_base::{NodeId, Place};
+use cx_base::{NodeId, Place, Scalar, Stop};
+use std::alloc::Global;
 use std::test::Fail;
 
 fn place(line: u32, col: u32) -> Place {
     Place { line, col }
 }
 
-/// `int a() { return 7; }`.
-fn with_literal() -> Function<'static>
-    ensures { length (function_nodes (function_tree result)) ≡ 5 }
+fn literal(node: u32, col: u32) -> Expr<'static>
+    ensures { length (expr_nodes (expr_tree result)) ≡ 1 }
 {
-    let value = Literal {
-        node: NodeId(1),
-        at: place(1, 18),
+    Expr::Int {
+        node: NodeId(node),
+        at: place(2, col),
+        scalar: Scalar::Int,
         value: 7,
-    };
+    }
+}
+
+/// `7 + 7`, the first of which stands at column 18.
+fn sum(alloc: Global, node: u32) -> Result<Expr<'static>, Stop>
+    requires { node + 2 < 4294967296 }
+    ensures { IfOk result (λ e. length (expr_nodes (expr_tree e)) ≡ 3) }
+{
+    let left = Box::new(alloc, literal(node, 18))?;
+    let right = Box::new(alloc, literal(node + 1, 22))?;
+    Ok(Expr::Binary {
+        node: NodeId(node + 2),
+        at: place(2, 18),
+        operator: BinaryOperator::Add,
+        left,
+        right,
+    })
+}
+
+/// `int a() { return VALUE; }` on a line, with a value of so many nodes.
+fn returning(line: u32, node: u32, value: Expr<'static>, nodes: u32) -> Function<'static>
+    requires count { length (expr_nodes (expr_tree value)) ≡ nodes }
+    requires room { node + nodes + 3 < 4294967296 }
+    ensures { length (function_nodes (function_tree result)) ≡ nodes + 4 }
+{
     let statement = Return {
-        node: NodeId(2),
-        at: place(1, 11),
-        value: Expr::Literal(value),
+        node: NodeId(node + nodes + 1),
+        at: place(line, 11),
+        value,
     };
     let body = Block {
-        node: NodeId(3),
-        at: place(1, 9),
+        node: NodeId(node + nodes + 2),
+        at: place(line, 9),
         statement,
     };
     let result = TypeSyn {
-        node: NodeId(0),
-        at: place(1, 1),
+        node: NodeId(node),
+        at: place(line, 1),
+        constant: false,
+        core: Core::Scalar(Scalar::Int),
+        reference: false,
     };
     Function {
-        node: NodeId(4),
-        at: place(1, 5),
+        node: NodeId(node + nodes + 3),
+        at: place(line, 5),
         result,
         name: "a",
         body,
     }
 }
 
-/// `int b() { return (a)(); }` on the second line, whose call is kept apart from its name to tell their places.
-fn with_call() -> Function<'static>
-    ensures { length (function_nodes (function_tree result)) ≡ 6 }
+fn two(alloc: Global) -> Result<Unit<'static>, Stop>
+    ensures { IfOk result (λ u. length (unit_nodes (unit_tree u)) ≡ 12) }
 {
-    let callee = Name {
-        node: NodeId(6),
-        at: place(2, 19),
-        text: "a",
-    };
-    let value = Call {
-        node: NodeId(7),
-        at: place(2, 18),
-        callee,
-    };
-    let statement = Return {
-        node: NodeId(8),
-        at: place(2, 11),
-        value: Expr::Call(value),
-    };
-    let body = Block {
-        node: NodeId(9),
-        at: place(2, 9),
-        statement,
-    };
-    let result = TypeSyn {
-        node: NodeId(5),
-        at: place(2, 1),
-    };
-    Function {
-        node: NodeId(10),
-        at: place(2, 5),
-        result,
-        name: "b",
-        body,
-    }
+    let mut functions = Vec::new(alloc);
+    functions.push(returning(1, 0, literal(1, 18), 1))?;
+    functions.push(returning(2, 5, sum(alloc, 6)?, 3))?;
+    Ok(Unit { functions })
 }
 
 #[test]
-fn nodes_of_the_first_function(rt: HostRuntime) -> Result<(), Fail> {
-    let functions = Vec::from_array(rt.alloc(), [with_literal(), with_call()])?;
-    let unit = Unit { functions };
+fn a_node_behind_its_parts(rt: HostRuntime) -> Result<(), Fail> {
+    let unit = two(rt.alloc())?;
     assert_eq!(rt; unit.place(NodeId(0)), place(1, 1));
-    assert_eq!(rt; unit.place(NodeId(1)), place(1, 18));
-    assert_eq!(rt; unit.place(NodeId(2)), place(1, 11));
-    assert_eq!(rt; unit.place(NodeId(3)), place(1, 9));
     assert_eq!(rt; unit.place(NodeId(4)), place(1, 5));
-    Ok(())
-}
-
-#[test]
-fn nodes_of_the_second_function(rt: HostRuntime) -> Result<(), Fail> {
-    let functions = Vec::from_array(rt.alloc(), [with_literal(), with_call()])?;
-    let unit = Unit { functions };
     assert_eq!(rt; unit.place(NodeId(5)), place(2, 1));
-    assert_eq!(rt; unit.place(NodeId(6)), place(2, 19));
-    assert_eq!(rt; unit.place(NodeId(7)), place(2, 18));
-    assert_eq!(rt; unit.place(NodeId(8)), place(2, 11));
-    assert_eq!(rt; unit.place(NodeId(9)), place(2, 9));
-    assert_eq!(rt; unit.place(NodeId(10)), place(2, 5));
+    assert_eq!(rt; unit.place(NodeId(6)), place(2, 18));
+    assert_eq!(rt; unit.place(NodeId(7)), place(2, 22));
+    assert_eq!(rt; unit.place(NodeId(8)), place(2, 18));
+    assert_eq!(rt; unit.place(NodeId(9)), place(2, 11));
+    assert_eq!(rt; unit.place(NodeId(11)), place(2, 5));
     Ok(())
 }

@@ -2,7 +2,8 @@ ghost use Rattle.std.specs.Prelude.{◌≡◌, ◌<◌, length, slice_get, Some}
 ghost use Rattle.std.specs.Option.{option_map};
 ghost use Rattle.cx_tree.specs.UnitTree.{unit_tree, unit_nodes};
 
-use crate::function::Function;
+use crate::function::{Function, walk_function};
+use crate::walk::Walk;
 use cx_base::{NodeId, Place};
 
 /// A unit: its functions in order.
@@ -19,14 +20,13 @@ impl Unit<'_> {
         requires { n.0 < length (unit_nodes (unit_tree self.now)) }
         ensures { option_map (λ m. m.at) (slice_get (unit_nodes (unit_tree self.now)) n.0) ≡ Some result }
     {
-        let mut left = n.0;
+        let mut walk = Walk::Left(n.0);
         for function in &self.functions {
-            let nodes = function.nodes();
-            if left < nodes {
-                return function.place(left);
-            }
-            left -= nodes;
+            walk = walk_function(function, walk);
         }
-        unreachable!()
+        match walk {
+            Walk::Found(place) => place,
+            Walk::Left(_) => unreachable!(),
+        }
     }
 }

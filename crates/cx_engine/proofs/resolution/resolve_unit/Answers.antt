@@ -9,10 +9,14 @@ loop-function-init c = rw c.new-names.ensures record { so_far = refl; rest = ref
 pub returns-in_err-resolve_function-clause-exact : goal.returns-in_err-resolve_function-clause-exact
 returns-in_err-resolve_function-clause-exact c =
     let p = err_from_is_err_and c.from_residual.result c.from_residual.ensures.1 in
-    rw (p.1, p.2, ← c.deref-function-items.ensures.value) (stops_there c.deref-function-items.result.now c.loop-function.function-index _ c.loop-function.names c.in_err-resolve_function.field-0.0 c.loop-function-test.true c.in_err-resolve_function.ensures.exact c.loop-function.invariant)
+    let item = rw c.function-item.is at c.in_err-resolve_function.ensures.exact in
+    rw (p.1, p.2, ← c.deref-function-items.ensures.value) (stops_there c.deref-function-items.result.now c.loop-function.function-index c.function-item.result c.loop-function.names c.in_err-resolve_function.field-0.0 c.loop-function-test.true item c.loop-function.invariant)
 
 pub loop-function-preserved : goal.loop-function-preserved
-loop-function-preserved c = goes_on c.deref-function-items.result.now c.loop-function.function-index _ c.loop-function.names c.resolve_function.new.names c.loop-function-test.true c.in_ok-resolve_function.ensures.exact c.in_ok-resolve_function.ensures.adds c.loop-function.invariant
+loop-function-preserved c =
+    let item = rw c.function-item.is at c.in_ok-resolve_function.ensures.exact in
+    let adds = rw c.function-item.is at c.in_ok-resolve_function.ensures.adds in
+    goes_on c.deref-function-items.result.now c.loop-function.function-index c.function-item.result c.loop-function.names c.resolve_function.new.names c.loop-function-test.true item adds c.loop-function.invariant
 
 pub returns-clause-exact : goal.returns-clause-exact
 returns-clause-exact c = rw (← c.deref-function-items.ensures.value) (ends c.deref-function-items.result.now c.loop-function.function-index c.loop-function.names c.loop-function-test.false c.loop-function.invariant).0

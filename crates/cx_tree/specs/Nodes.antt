@@ -1,0 +1,59 @@
+-- The nodes of a tree.
+use Rattle.std.specs.Prelude.{zero, suc, List, [], ◌∷◌, ◌++◌}
+use Rattle.cx_base.specs.declared.place.Place.{Place}
+use Rattle.cx_tree.specs.declared.walk.Walk.{Walk}
+use Rattle.cx_tree.specs.declared.walk.Walk.TheVariants.{Left, Found}
+use Rattle.cx_tree.specs.Trees.{Mark, ExprTree, IntTree, BoolTree, NameTree, TemplateTree, QualifiedTree, ListTree, GroupTree, StaticCastTree, IsSameTree, OutTree, MemberTree, CallTree, PostfixTree, UnaryTree, BinaryTree, ConditionalTree, AssignmentTree, ExprTrees, no_expr, and_expr, TypeTree, OfCore, CoreTree, ScalarTree, VoidTree, TypeNameTree, ClassTree, MemberTypeTree, DecltypeTree, ArgumentTrees, no_argument, and_type, and_value}
+
+-- Each node stands behind its parts, the parts in the order of the text.
+abbrev mutual
+  pub expr_nodes : ExprTree → List Mark
+  expr_nodes (IntTree m scalar value) = m ∷ []
+  expr_nodes (BoolTree m value) = m ∷ []
+  expr_nodes (NameTree m name) = m ∷ []
+  expr_nodes (TemplateTree m name arguments) = argument_nodes arguments ++ m ∷ []
+  expr_nodes (QualifiedTree m head names) = type_nodes head ++ m ∷ []
+  expr_nodes (ListTree m of items) = type_nodes of ++ exprs_nodes items ++ m ∷ []
+  expr_nodes (GroupTree m inner) = expr_nodes inner ++ m ∷ []
+  expr_nodes (StaticCastTree m to operand) = type_nodes to ++ expr_nodes operand ++ m ∷ []
+  expr_nodes (IsSameTree m left right) = type_nodes left ++ type_nodes right ++ m ∷ []
+  expr_nodes (OutTree m operand) = expr_nodes operand ++ m ∷ []
+  expr_nodes (MemberTree m object name) = expr_nodes object ++ m ∷ []
+  expr_nodes (CallTree m callee arguments) = expr_nodes callee ++ exprs_nodes arguments ++ m ∷ []
+  expr_nodes (PostfixTree m operator operand) = expr_nodes operand ++ m ∷ []
+  expr_nodes (UnaryTree m operator operand) = expr_nodes operand ++ m ∷ []
+  expr_nodes (BinaryTree m operator left right) = expr_nodes left ++ expr_nodes right ++ m ∷ []
+  expr_nodes (ConditionalTree m condition then otherwise) = expr_nodes condition ++ expr_nodes then ++ expr_nodes otherwise ++ m ∷ []
+  expr_nodes (AssignmentTree m operator target value) = expr_nodes target ++ expr_nodes value ++ m ∷ []
+
+  pub exprs_nodes : ExprTrees → List Mark
+  exprs_nodes no_expr = []
+  exprs_nodes (and_expr e es) = expr_nodes e ++ exprs_nodes es
+
+  pub type_nodes : TypeTree → List Mark
+  type_nodes (OfCore m constant core reference) = core_nodes core ++ m ∷ []
+
+  -- a core is no node of its own
+  pub core_nodes : CoreTree → List Mark
+  core_nodes (ScalarTree scalar) = []
+  core_nodes VoidTree = []
+  core_nodes (TypeNameTree name) = []
+  core_nodes (ClassTree name arguments) = argument_nodes arguments
+  core_nodes (MemberTypeTree head names) = type_nodes head
+  core_nodes (DecltypeTree operand) = expr_nodes operand
+
+  -- nor is a template argument beside its type or value
+  pub argument_nodes : ArgumentTrees → List Mark
+  argument_nodes no_argument = []
+  argument_nodes (and_type t rest) = type_nodes t ++ argument_nodes rest
+  argument_nodes (and_value e rest) = expr_nodes e ++ argument_nodes rest
+
+-- A walk over nodes to one of them: each node that is passed counts one, until the one is found.
+abbrev pub stepped : Walk → Place → Walk
+stepped (Left zero) at = Found at
+stepped (Left (suc n)) at = Left n
+stepped (Found place) at = Found place
+
+abbrev pub walked : Walk → List Mark → Walk
+walked walk [] = walk
+walked walk (m ∷ ms) = walked (stepped walk m.at) ms

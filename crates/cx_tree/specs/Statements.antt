@@ -1,0 +1,71 @@
+-- The trees of statements ([stmt.stmt]).
+use Rattle.std.specs.Prelude.{ℕ, Bool, List, [], ◌∷◌, Option}
+use Rattle.cx_tree.specs.Trees.{Mark, ExprTree, ExprTrees, TypeTree, ArgumentTrees}
+
+-- A concept that constrains a type, with its template arguments ([temp.param]); a list of them is never empty.
+pub record ConstraintTree : Type 0 where
+  pub mark : Mark
+  pub name : List ℕ
+  pub args : ArgumentTrees
+
+-- `auto` with its constraint ([dcl.spec.auto]).
+pub record AutoTree : Type 0 where
+  pub mark : Mark
+  pub constant : Bool
+  pub constraint : Option ConstraintTree
+  pub reference : Bool
+
+-- The type that a declaration is written with.
+pub data WrittenType : Type 0 where
+  OfType : TypeTree → WrittenType
+  OfAuto : AutoTree → WrittenType
+
+-- An initialiser ([dcl.init]): behind `=`, or a list in braces.
+pub data InitTree : Type 0 where
+  ValueInit : ExprTree → InitTree
+  ListInit : Mark → ExprTrees → InitTree
+
+-- A declaration of a variable; its place is that of its name.
+pub record VariableTree : Type 0 where
+  pub mark : Mark
+  pub is_constexpr : Bool
+  pub type : WrittenType
+  pub name : List ℕ
+  pub init : InitTree
+
+-- What stands first in the head of a `for`.
+pub data ForInit : Type 0 where
+  NoInit : ForInit
+  VariableInit : VariableTree → ForInit
+  ExprInit : ExprTree → ForInit
+
+-- `static_assert` with its condition, and a text or none ([dcl.pre]).
+pub record AssertTree : Type 0 where
+  pub mark : Mark
+  pub condition : ExprTree
+  pub message : Option (List ℕ)
+
+mutual
+  pub data StmtTree : Type 0 where
+    EmptyStmt : Mark → StmtTree
+    Block : Mark → StmtTrees → StmtTree
+    AssertStmt : AssertTree → StmtTree
+    Break : Mark → StmtTree
+    Continue : Mark → StmtTree
+    Return : Mark → Option ExprTree → StmtTree
+    If : Mark → (is_constexpr : Bool) → (condition : ExprTree) → (then : StmtTree) → StmtTree
+    IfElse : Mark → (is_constexpr : Bool) → (condition : ExprTree) → (then : StmtTree) → (otherwise : StmtTree) → StmtTree
+    While : Mark → (condition : ExprTree) → (body : StmtTree) → StmtTree
+    For : Mark → ForInit → (condition : Option ExprTree) → (step : Option ExprTree) → (body : StmtTree) → StmtTree
+    VariableStmt : VariableTree → StmtTree
+    ExprStmt : Mark → ExprTree → StmtTree
+
+  -- statements in order
+  pub data StmtTrees : Type 0 where
+    no_stmt : StmtTrees
+    and_stmt : StmtTree → StmtTrees → StmtTrees
+
+-- a list in the form that a tree holds
+abbrev pub stmts : List StmtTree → StmtTrees
+stmts [] = no_stmt
+stmts (s ∷ ss) = and_stmt s (stmts ss)
