@@ -8,7 +8,7 @@ use Rattle.cx_base.specs.declared.limit.Limit.TheVariants as limit
 use Rattle.cx_base.specs.declared.place.Place.{Place}
 use Rattle.cx_io.specs.Count.{Rose}
 use Rattle.cx_io.specs.Sink.{Appends}
-use Rattle.cx_plain.specs.declared.tree.PlainUnit.{PlainUnit}
+use Rattle.cx_plain.specs.PlainTree.{PlainTree}
 use Rattle.cx_plain.specs.PlainText.{plain_text}
 use Rattle.conceptc.specs.declared.command.Command.{Command}
 use Rattle.conceptc.specs.declared.command.Command.TheVariants.{Translate}
@@ -49,9 +49,9 @@ too_much_is rest0 (Some left) bytes told h =
 
 -- ---- what the verdict is where this was decided
 
-abbrev pub Decides : Decision → Result PlainUnit Refusal → Type 0
+abbrev pub Decides : Decision → Result PlainTree Refusal → Type 0
 Decides decision.NoCommand meant = ⊥
-Decides (decision.Translated text) meant = (plain : PlainUnit) × (meant ≡ Ok plain) × (text ≡ plain_text plain)
+Decides (decision.Translated text) meant = (plain : PlainTree) × (meant ≡ Ok plain) × (text ≡ plain_text plain)
 Decides (decision.Refused fault) meant = meant ≡ Err (Refused fault)
 Decides (decision.Passed l at) meant = meant ≡ Err (Passed l at)
 Decides decision.Unread meant = Unit {0}
@@ -127,7 +127,7 @@ is_limit d st command rest0 rest1 i0 i1 out0 out1 o0 o1 diag0 diag1 d0 d1 limits
 under : (d : Decision) (command : Option Command) (rest0 rest1 : Option (List ℕ)) (i0 i1 : ℕ) → command ≡ Some Translate → IsCause d command rest0 rest1 i0 i1 → IsCauseOf d rest0 rest1 i0 i1
 under d command rest0 rest1 i0 i1 e cause = subst (λ (c : Option Command). IsCause d c rest0 rest1 i0 i1) e cause
 
-ill_formed_status : (d : Decision) (st : Status) (meant : Result PlainUnit Refusal) (fault : Fault) → Decides d meant → meant ≡ Err (Refused fault) → st ≡ status_of d → IsUnlessFaulty status.IllFormed st
+ill_formed_status : (d : Decision) (st : Status) (meant : Result PlainTree Refusal) (fault : Fault) → Decides d meant → meant ≡ Err (Refused fault) → st ≡ status_of d → IsUnlessFaulty status.IllFormed st
 ill_formed_status decision.NoCommand st meant fault h e is = absurd h
 ill_formed_status (decision.Translated text) st meant fault h e is =
     let apart : meant ≡ Ok h.0 = h.1 in
@@ -137,7 +137,7 @@ ill_formed_status (decision.Passed l at) st meant fault h e is = absurd cc
 ill_formed_status decision.Unread st meant fault h e is = inr (inl is)
 ill_formed_status decision.OutOfMemory st meant fault h e is = inr (inr (inr is))
 
-done_status : (d : Decision) (st : Status) (meant : Result PlainUnit Refusal) (plain : PlainUnit) → Decides d meant → meant ≡ Ok plain → st ≡ status_of d → IsUnlessFaulty status.Done st
+done_status : (d : Decision) (st : Status) (meant : Result PlainTree Refusal) (plain : PlainTree) → Decides d meant → meant ≡ Ok plain → st ≡ status_of d → IsUnlessFaulty status.Done st
 done_status decision.NoCommand st meant plain h e is = absurd h
 done_status (decision.Translated text) st meant plain h e is = inl is
 done_status (decision.Refused f) st meant plain h e is = absurd cc
@@ -153,14 +153,14 @@ ill_formed_exactly d st command rest0 rest1 i0 i1 out0 out1 o0 o1 diag0 diag1 d0
 ill_formed_exactly d st command rest0 rest1 i0 i1 out0 out1 o0 o1 diag0 diag1 d0 d1 cause (inr h) asked bytes fault told is = inr (inr (inl h.0))
 
 pub done_exactly : (d : Decision) (st : Status) (command : Option Command) (rest0 rest1 : Option (List ℕ)) (i0 i1 : ℕ) (out0 out1 : Option (List ℕ)) (o0 o1 : ℕ) (diag0 diag1 : Option (List ℕ)) (d0 d1 : ℕ)
-    → IsCause d command rest0 rest1 i0 i1 → Says d st out0 out1 o0 o1 diag0 diag1 d0 d1 → command ≡ Some Translate → (bytes : List ℕ) (plain : PlainUnit) → rest0 ≡ Some bytes → verdict bytes ≡ Ok plain
+    → IsCause d command rest0 rest1 i0 i1 → Says d st out0 out1 o0 o1 diag0 diag1 d0 d1 → command ≡ Some Translate → (bytes : List ℕ) (plain : PlainTree) → rest0 ≡ Some bytes → verdict bytes ≡ Ok plain
     → IsUnlessFaulty status.Done st
 done_exactly d st command rest0 rest1 i0 i1 out0 out1 o0 o1 diag0 diag1 d0 d1 cause (inl h) asked bytes plain told is =
     done_status d st (verdict bytes) plain (decides d rest0 rest1 i0 i1 bytes told (under d command rest0 rest1 i0 i1 asked cause)) is h.0
 done_exactly d st command rest0 rest1 i0 i1 out0 out1 o0 o1 diag0 diag1 d0 d1 cause (inr h) asked bytes plain told is = inr (inr (inl h.0))
 
 -- with no count that rises
-complete_status : (d : Decision) (st : Status) (meant : Result PlainUnit Refusal) (plain : PlainUnit) (rest0 rest1 out0 out1 : Option (List ℕ)) (i0 i1 : ℕ) → Decides d meant → meant ≡ Ok plain → st ≡ status_of d
+complete_status : (d : Decision) (st : Status) (meant : Result PlainTree Refusal) (plain : PlainTree) (rest0 rest1 out0 out1 : Option (List ℕ)) (i0 i1 : ℕ) → Decides d meant → meant ≡ Ok plain → st ≡ status_of d
     → Appends out0 out1 (out_text d) → (Rose i0 i1 → ⊥) → IsCauseOf d rest0 rest1 i0 i1 → IsComplete plain st out0 out1
 complete_status decision.NoCommand st meant plain rest0 rest1 out0 out1 i0 i1 h e is put calm cause = absurd h
 complete_status (decision.Translated text) st meant plain rest0 rest1 out0 out1 i0 i1 h e is put calm cause =
@@ -174,7 +174,7 @@ complete_status decision.Unread st meant plain rest0 rest1 out0 out1 i0 i1 h e i
 complete_status decision.OutOfMemory st meant plain rest0 rest1 out0 out1 i0 i1 h e is put calm cause = inr is
 
 pub complete : (d : Decision) (st : Status) (command : Option Command) (rest0 rest1 : Option (List ℕ)) (i0 i1 : ℕ) (out0 out1 : Option (List ℕ)) (o0 o1 : ℕ) (diag0 diag1 : Option (List ℕ)) (d0 d1 : ℕ)
-    → IsCause d command rest0 rest1 i0 i1 → Says d st out0 out1 o0 o1 diag0 diag1 d0 d1 → command ≡ Some Translate → (bytes : List ℕ) (plain : PlainUnit) → rest0 ≡ Some bytes → verdict bytes ≡ Ok plain
+    → IsCause d command rest0 rest1 i0 i1 → Says d st out0 out1 o0 o1 diag0 diag1 d0 d1 → command ≡ Some Translate → (bytes : List ℕ) (plain : PlainTree) → rest0 ≡ Some bytes → verdict bytes ≡ Ok plain
     → (Rose i0 i1 → ⊥) → (Rose o0 o1 → ⊥) → (Rose d0 d1 → ⊥) → IsComplete plain st out0 out1
 complete d st command rest0 rest1 i0 i1 out0 out1 o0 o1 diag0 diag1 d0 d1 cause (inl h) asked bytes plain told is calm_in calm_out calm_diag =
     let reason = under d command rest0 rest1 i0 i1 asked cause in

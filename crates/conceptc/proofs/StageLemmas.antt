@@ -1,6 +1,7 @@
 -- The stages of the verdict, one behind the other.
-use Rattle.std.proofs.Common.{◌≡◌, ◌≤◌, ◌<◌, ◌⊎◌, inl, inr, ℕ, Bool, true, false, cond, ltb, List, [], length, Result, Ok, Err, refl, sym, subst}
-use Rattle.std.proofs.lemmas.Bool.{lt-ltb, le-ltb}
+use Rattle.std.proofs.Common.{◌≡◌, ◌≤◌, ◌<◌, ◌⊎◌, inl, inr, ℕ, Bool, true, false, cond, ltb, List, [], ◌∷◌, length, None, Result, Ok, Err, refl, sym, subst}
+use Rattle.std.specs.List.{AllByRecursion}
+use Rattle.std.proofs.lemmas.Bool.{le-leb, lt-ltb, le-ltb}
 use Rattle.cx_base.specs.Refusal.{Refusal, Refused, Passed, ◌>>=◌}
 use Rattle.cx_base.specs.declared.fault.Fault.{Fault}
 use Rattle.cx_base.specs.declared.kind.Kind.{Kind}
@@ -11,10 +12,13 @@ use Rattle.cx_base.specs.declared.place.Place.{Place}
 use Rattle.cx_lexer.specs.Division.{AreTokens, EndsOnce, IsLexical}
 use Rattle.cx_lexer.specs.Reading.{lexed}
 use Rattle.cx_lexer.specs.Tokens.{TokenTree, fault_at}
+use Rattle.cx_base.specs.declared.value.Scalar.TheVariants as scalar
+use Rattle.cx_tree.specs.Trees.{ExprTree, IntTree, NameTree, CallTree, no_expr, TypeTree, OfCore, ScalarTree}
 use Rattle.cx_tree.specs.UnitTree.{UnitTree}
 use Rattle.cx_parse_decl.specs.Fault.{is_unsupported, misfit_fault, misfit}
 use Rattle.cx_parse_decl.specs.Grammar.{unit_at}
-use Rattle.cx_parse_decl.specs.Spelling.{Spells, IsMisfit}
+use Rattle.cx_parse_decl.specs.Spelling.{IsValue, IsInt, GivesValue, Spells, IsMisfit}
+use Rattle.cx_engine.specs.Forms.{unbuilt_in, unbuilt_type, first_unbuilt, forms_unit}
 use Rattle.cx_engine.specs.Names.{names_unit}
 use Rattle.cx_engine.specs.Plain.{plain_unit, translated}
 use Rattle.conceptc.specs.Decision.{IsTextOf}
@@ -25,10 +29,29 @@ bind_err : {A B : Type 0} (m : Result A Refusal) (f : A → Result B Refusal) (r
 bind_err (Ok x) f r e = inr (x, refl, e)
 bind_err (Err d) f r e = inl cc
 
--- what a unit's names are refused for is what its translation is
-names_refused : (u : UnitTree) (r : Refusal) → translated u ≡ Err r → names_unit u ≡ Err r
+-- ---- the forms that are spelled are built
+
+built_value : (v : ExprTree) → IsValue v → unbuilt_in v ≡ None
+built_value (IntTree m scalar.Int value) h = rw (le-leb value 2147483647 h) refl
+built_value (CallTree m (NameTree callee name) no_expr) h = refl
+built_value other h = absurd h
+
+built_type : (t : TypeTree) → IsInt t → unbuilt_type t ≡ None
+built_type (OfCore m false (ScalarTree scalar.Int) false) h = refl
+built_type other h = absurd h
+
+all_built : (u : UnitTree) → AllByRecursion GivesValue u → first_unbuilt u ≡ None
+all_built [] h = refl
+all_built (f ∷ fs) h = rw (built_type f.type h.0.0, built_value f.value h.0.1, all_built fs h.1) refl
+
+forms_pass : (u : UnitTree) → AllByRecursion GivesValue u → forms_unit u ≡ Ok tt
+unfolding forms_unit
+forms_pass u h = rw (all_built u h) refl
+
+-- what a unit whose forms are built is refused for is what its names are
+names_refused : (u : UnitTree) (r : Refusal) → AllByRecursion GivesValue u → translated u ≡ Err r → names_unit u ≡ Err r
 unfolding translated
-names_refused u r e = by (names_unit u) e
+names_refused u r built e = by (names_unit u) (rw (forms_pass u built) at e)
   where
     by : (m : Result (Unit {0}) Refusal) → (m >>= λ _. Ok (plain_unit u)) ≡ Err r → m ≡ Err r
     by (Ok x) h = absurd cc
@@ -100,9 +123,9 @@ grammar_kind laws ts f e =
     let m = laws.refused ts (Refused f) e in
     subst (λ (g : Fault). IsGrammatical g.kind) (same_fault f (misfit_fault m.0) m.1) (misfit_kind m.0)
 
-name_kind : Laws → (u : UnitTree) (f : Fault) → translated u ≡ Err (Refused f) → IsNaming f.kind
-name_kind laws u f e =
-    let k = laws.kinds u (Refused f) (names_refused u (Refused f) e) in
+name_kind : Laws → (u : UnitTree) (f : Fault) → AllByRecursion GivesValue u → translated u ≡ Err (Refused f) → IsNaming f.kind
+name_kind laws u f built e =
+    let k = laws.kinds u (Refused f) (names_refused u (Refused f) built e) in
     subst (λ (g : Fault). IsNaming g.kind) (same_fault f k.0 k.1) k.2
 
 token_kind : Laws → (bytes : List ℕ) (f : Fault) → lexed bytes ≡ Err (Refused f) → IsLexical f.kind
@@ -127,18 +150,25 @@ pub is_read : Laws → (bytes : List ℕ) (u : UnitTree) → IsTextOf bytes u �
 unfolding tree_of
 is_read laws bytes u text = rw (← laws.only_read bytes (Ok text.0) text.1) (laws.only text.0 u text.2)
 
+-- what is read has forms that are built
+values_of : Laws → (bytes : List ℕ) (u : UnitTree) → tree_of bytes ≡ Ok u → AllByRecursion GivesValue u
+values_of laws bytes u e = (is_spelled laws bytes u e).2.values
+
+pub is_passed : Laws → (bytes : List ℕ) (u : UnitTree) → tree_of bytes ≡ Ok u → forms_unit u ≡ Ok tt
+is_passed laws bytes u e = forms_pass u (values_of laws bytes u e)
+
 -- ---- the stage that refuses
 
 abbrev StageOf : List ℕ → Refusal → Type 0
 StageOf bytes r =
-    (lexed bytes ≡ Err r) ⊎ ((ts : List TokenTree) × (lexed bytes ≡ Ok ts) × (unit_at ts ≡ Err r)) ⊎ ((u : UnitTree) × (translated u ≡ Err r))
+    (lexed bytes ≡ Err r) ⊎ ((ts : List TokenTree) × (lexed bytes ≡ Ok ts) × (unit_at ts ≡ Err r)) ⊎ ((u : UnitTree) × (tree_of bytes ≡ Ok u) × (translated u ≡ Err r))
 
 stage_of : (bytes : List ℕ) (r : Refusal) → judged bytes ≡ Err r → StageOf bytes r
 unfolding judged tree_of
 stage_of bytes r e =
     elim (bind_err (tree_of bytes) translated r e) [
       | inl h ↦ elim (bind_err (lexed bytes) unit_at r h) [ inl l ↦ inl l | inr g ↦ inr (inl g) ]
-      | inr n ↦ inr (inr (n.0, n.2))
+      | inr n ↦ inr (inr n)
     ]
 
 judged_lexed : (bytes : List ℕ) (r : Refusal) → lexed bytes ≡ Err r → judged bytes ≡ Err r
@@ -156,7 +186,7 @@ lexical_only laws bytes f e is =
       | inl l ↦ are_tokens laws.read bytes (Err (Refused f)) l
       | inr s ↦ elim s [
         | inl g ↦ absurd (no_token_is_grammatical f.kind is (grammar_kind laws g.0 f g.2))
-        | inr n ↦ absurd (no_name_is_lexical f.kind (name_kind laws n.0 f n.1) is)
+        | inr n ↦ absurd (no_name_is_lexical f.kind (name_kind laws n.0 f (values_of laws bytes n.0 n.1) n.2) is)
       ]
     ]
 
@@ -181,7 +211,7 @@ is_misfit laws bytes f e is =
         | inl g ↦
             let are : AreTokens bytes (Ok g.0) = are_tokens laws.read bytes (Ok g.0) g.1 in
             (g.0, are, laws.stops g.0 (Refused f) (laws.ended bytes g.0 are) g.2)
-        | inr n ↦ absurd (no_name_is_grammatical f.kind (name_kind laws n.0 f n.1) is)
+        | inr n ↦ absurd (no_name_is_grammatical f.kind (name_kind laws n.0 f (values_of laws bytes n.0 n.1) n.2) is)
       ]
     ]
 
@@ -190,7 +220,7 @@ unfolding judged
 no_unit laws bytes f e is u text =
     let read : tree_of bytes ≡ Ok u = is_read laws bytes u text in
     let named : translated u ≡ Err (Refused f) = subst (λ (m : Result UnitTree Refusal). (m >>= translated) ≡ Err (Refused f)) read e in
-    let kind = name_kind laws u f named in
+    let kind = name_kind laws u f text.2.values named in
     elim is [ inl h ↦ no_name_is_lexical f.kind kind h | inr h ↦ no_name_is_grammatical f.kind kind h ]
 
 no_fault : (l : Limit) (at : Place) (f : Fault) → Passed l at ≡ Refused f → ⊥
@@ -202,7 +232,7 @@ no_limit laws bytes l at e =
       | inl h ↦ let k = are_refused laws bytes (Passed l at) (are_tokens laws.read bytes (Err (Passed l at)) h) in no_fault l at k.0 k.1
       | inr s ↦ elim s [
         | inl g ↦ let m = laws.refused g.0 (Passed l at) g.2 in no_fault l at (misfit_fault m.0) m.1
-        | inr n ↦ let k = laws.kinds n.0 (Passed l at) (names_refused n.0 (Passed l at) n.1) in no_fault l at k.0 k.1
+        | inr n ↦ let k = laws.kinds n.0 (Passed l at) (names_refused n.0 (Passed l at) (values_of laws bytes n.0 n.1) n.2) in no_fault l at k.0 k.1
       ]
     ]
 

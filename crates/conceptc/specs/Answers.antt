@@ -7,7 +7,7 @@ use Rattle.cx_base.specs.declared.limit.Limit.TheVariants as limit
 use Rattle.cx_io.specs.Count.{Rose}
 use Rattle.cx_io.specs.Sink.{Appends, AppendsFront}
 use Rattle.cx_tree.specs.UnitTree.{UnitTree}
-use Rattle.cx_plain.specs.declared.tree.PlainUnit.{PlainUnit}
+use Rattle.cx_plain.specs.PlainTree.{PlainTree}
 use Rattle.cx_plain.specs.PlainText.{plain_text}
 use Rattle.cx_engine.specs.SourceMeaning.{Means}
 use Rattle.conceptc.specs.declared.command.Command.{Command}
@@ -28,7 +28,7 @@ IsDecided command st rest0 rest1 i0 i1 out0 out1 o0 o1 diag0 diag1 d0 d1 =
 -- Done: the input was read to its end, its bytes spell a unit whose verdict is a plain unit; out took the text of the
 -- plain unit and then that of the witness; the plain unit does what the unit does.
 abbrev pub IsDone : Option Command → Option (List ℕ) → Option (List ℕ) → Option (List ℕ) → Option (List ℕ) → Option (List ℕ) → Option (List ℕ) → Type 0
-IsDone command rest0 rest1 out0 out1 diag0 diag1 = (bytes : List ℕ) × (unit : UnitTree) × (plain : PlainUnit)
+IsDone command rest0 rest1 out0 out1 diag0 diag1 = (bytes : List ℕ) × (unit : UnitTree) × (plain : PlainTree)
     × (command ≡ Some Translate) × ReadsWhole rest0 rest1 bytes × IsTextOf bytes unit × (verdict bytes ≡ Ok plain) × Means unit plain
     × Appends out0 out1 (plain_text plain ++ witness_text) × (diag1 ≡ diag0)
 
@@ -69,7 +69,7 @@ abbrev pub IsUnlessFaulty : Status → Status → Type 0
 IsUnlessFaulty wanted st = (st ≡ wanted) ⊎ (st ≡ status.ReadFault) ⊎ (st ≡ status.WriteFault) ⊎ (st ≡ status.NoMemory)
 
 -- The answer is Done with the texts of this plain unit, or memory lacks.
-abbrev pub IsComplete : PlainUnit → Status → Option (List ℕ) → Option (List ℕ) → Type 0
+abbrev pub IsComplete : PlainTree → Status → Option (List ℕ) → Option (List ℕ) → Type 0
 IsComplete plain st out0 out1 = ((st ≡ status.Done) × Appends out0 out1 (plain_text plain ++ witness_text)) ⊎ (st ≡ status.NoMemory)
 
 -- What the program answers: what the top call answers, or, where memory for the words lacks, NoMemory, and then nothing

@@ -8,7 +8,7 @@ use Rattle.cx_lexer.specs.Division.{AreTokens}
 use Rattle.cx_lexer.specs.Tokens.{TokenTree}
 use Rattle.cx_tree.specs.UnitTree.{UnitTree}
 use Rattle.cx_parse_decl.specs.Spelling.{Spells}
-use Rattle.cx_plain.specs.declared.tree.PlainUnit.{PlainUnit}
+use Rattle.cx_plain.specs.PlainTree.{PlainTree}
 use Rattle.cx_plain.specs.PlainText.{plain_text}
 use Rattle.cx_engine.specs.SourceMeaning.{Means}
 use Rattle.conceptc.specs.declared.command.Command.{Command}
@@ -28,7 +28,7 @@ IsTextOf bytes unit = (ts : List TokenTree) × AreTokens bytes (Ok ts) × Spells
 -- The bytes spell a unit, whose plain unit is the verdict and does what the unit does; the text is that of the
 -- plain unit.
 abbrev pub IsTranslated : List ℕ → List ℕ → Type 0
-IsTranslated bytes text = (unit : UnitTree) × (plain : PlainUnit)
+IsTranslated bytes text = (unit : UnitTree) × (plain : PlainTree)
     × IsTextOf bytes unit × (tree_of bytes ≡ Ok unit) × (verdict bytes ≡ Ok plain) × Means unit plain × (text ≡ plain_text plain)
 
 -- What is decided of a unit's bytes.

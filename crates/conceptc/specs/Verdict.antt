@@ -1,7 +1,7 @@
 -- What a unit's bytes are: the first stop of the stages, else their plain unit.
 --
 -- The stages are, in this order: the limit on the bytes; BadByte; the other faults of tokens, by place; the grammar; the
--- names; the plain unit.
+-- forms that are not built; the names; the plain unit.
 use Rattle.std.specs.Prelude.{◌≡◌, ◌⊎◌, ℕ, List, length, nat_lt, Result, Err, if◌then◌else◌}
 use Rattle.cx_base.specs.Refusal.{Refusal, Passed, ◌>>=◌}
 use Rattle.cx_base.specs.declared.kind.Kind.{Kind}
@@ -11,7 +11,7 @@ use Rattle.cx_base.specs.declared.place.Place.{Place}
 use Rattle.cx_lexer.specs.Reading.{lexed}
 use Rattle.cx_parse_decl.specs.Grammar.{unit_at}
 use Rattle.cx_tree.specs.UnitTree.{UnitTree}
-use Rattle.cx_plain.specs.declared.tree.PlainUnit.{PlainUnit}
+use Rattle.cx_plain.specs.PlainTree.{PlainTree}
 use Rattle.cx_engine.specs.Plain.{translated}
 
 -- How many bytes a unit may have.
@@ -32,12 +32,12 @@ tree_of bytes = do
   ts ← lexed bytes
   unit_at ts
 
--- The stages behind the limit on the bytes.
-unfoldable pub judged : List ℕ → Result PlainUnit Refusal
+-- The stages behind the limit on the bytes: the tree, then the forms, the names and the plain unit.
+unfoldable pub judged : List ℕ → Result PlainTree Refusal
 judged bytes = do
   unit ← tree_of bytes
   translated unit
 
 -- The verdict on a unit's bytes.
-unfoldable pub verdict : List ℕ → Result PlainUnit Refusal
+unfoldable pub verdict : List ℕ → Result PlainTree Refusal
 verdict bytes = if nat_lt source_limit (length bytes) then Err (Passed limit.Source no_place) else judged bytes

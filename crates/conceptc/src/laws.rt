@@ -9,6 +9,7 @@ ghost use Rattle.cx_tree.specs.UnitTree.{UnitTree};
 ghost use Rattle.cx_lexer.specs.Division.{AreTokens, IsLexical};
 ghost use Rattle.cx_lexer.specs.Tokens.{TokenTree};
 ghost use Rattle.cx_parse_decl.specs.Spelling.{IsMisfit};
+ghost use Rattle.cx_engine.specs.Forms.{forms_unit};
 ghost use Rattle.conceptc.specs.Decision.{IsTextOf};
 ghost use Rattle.conceptc.specs.Verdict.{IsGrammatical, tree_of, judged};
 
@@ -30,6 +31,9 @@ pub fn stages()
     // not fit: the tokens before it begin a unit, and with it they begin none.
     ensures syntax { (bytes : List ℕ) (ts : List TokenTree) (r : Refusal) → AreTokens bytes (Ok ts) → tree_of bytes ≡ Err r → (judged bytes ≡ Err r) × (f : Fault) × (r ≡ Refused f) × IsGrammatical f.kind }
     ensures misfit { (bytes : List ℕ) (f : Fault) → judged bytes ≡ Err (Refused f) → IsGrammatical f.kind → (ts : List TokenTree) × AreTokens bytes (Ok ts) × IsMisfit ts (Refused f) }
+
+    // Every form that the grammar has is built: the stage of forms refuses no unit that is read.
+    ensures forms { (bytes : List ℕ) (unit : UnitTree) → tree_of bytes ≡ Ok unit → forms_unit unit ≡ Ok tt }
 
     // Such a fault, of the tokens or of the grammar, stands only where the bytes spell no unit.
     ensures no_unit { (bytes : List ℕ) (f : Fault) → judged bytes ≡ Err (Refused f) → IsLexical f.kind ⊎ IsGrammatical f.kind → (unit : UnitTree) → IsTextOf bytes unit → ⊥ }

@@ -2,7 +2,7 @@ ghost use Rattle.std.specs.Prelude.{◌≡◌, ◌⊎◌, ◌≤◌, ◌<◌, �
 ghost use Rattle.cx_base.specs.Refusal.{Refused};
 ghost use Rattle.cx_base.specs.declared.fault.Fault.{Fault};
 ghost use Rattle.cx_io.specs.Count.{Rose};
-ghost use Rattle.cx_plain.specs.declared.tree.PlainUnit.{PlainUnit};
+ghost use Rattle.cx_plain.specs.PlainTree.{PlainTree};
 ghost use Rattle.conceptc.specs.declared.command.Command.TheVariants.{Translate};
 ghost use Rattle.conceptc.specs.Answers.{IsDecided, IsDone, IsIllFormed, IsUsage, IsLimit, IsReadFault, IsWriteFault, IsNoMemory, IsNeverYet, IsUnlessFaulty, IsComplete};
 ghost use Rattle.conceptc.specs.Command.{command_of};
@@ -53,11 +53,11 @@ pub fn conceptc<S: Source, O: Sink, D: Sink>(
         → IsUnlessFaulty Status.Limit result }
     ensures ill_formed_exactly { command_of (map (λ w. w.now) words.now) ≡ Some Translate → (bytes : List ℕ) (fault : Fault) → S.rest input.old ≡ Some bytes → verdict bytes ≡ Err (Refused fault)
         → IsUnlessFaulty Status.IllFormed result }
-    ensures done_exactly { command_of (map (λ w. w.now) words.now) ≡ Some Translate → (bytes : List ℕ) (plain : PlainUnit) → S.rest input.old ≡ Some bytes → verdict bytes ≡ Ok plain
+    ensures done_exactly { command_of (map (λ w. w.now) words.now) ≡ Some Translate → (bytes : List ℕ) (plain : PlainTree) → S.rest input.old ≡ Some bytes → verdict bytes ≡ Ok plain
         → IsUnlessFaulty Status.Done result }
 
     // Where no count of faults rises, a unit whose verdict is a plain unit is translated to exactly its texts.
-    ensures complete { command_of (map (λ w. w.now) words.now) ≡ Some Translate → (bytes : List ℕ) (plain : PlainUnit) → S.rest input.old ≡ Some bytes → verdict bytes ≡ Ok plain
+    ensures complete { command_of (map (λ w. w.now) words.now) ≡ Some Translate → (bytes : List ℕ) (plain : PlainTree) → S.rest input.old ≡ Some bytes → verdict bytes ≡ Ok plain
         → (Rose (S.faults input.old) (S.faults input.new) → ⊥) → (Rose (O.faults out.old) (O.faults out.new) → ⊥) → (Rose (D.faults diag.old) (D.faults diag.new) → ⊥)
         → IsComplete plain result (O.written out.old) (O.written out.new) }
 {

@@ -1,5 +1,5 @@
 -- What is spelled is read.
-use Rattle.std.proofs.Common.{◌≡◌, ℕ, zero, suc, ◌+◌, ◌≤◌, false, List, [], ◌∷◌, length, codes, None, Result, Ok, refl, sym, ap, subst, ◌∙◌, arith, length-append}
+use Rattle.std.proofs.Common.{◌≡◌, ℕ, zero, suc, ◌+◌, ◌≤◌, false, List, [], ◌∷◌, ◌++◌, length, codes, None, Result, Ok, refl, sym, ap, subst, ◌∙◌, arith, length-append}
 use Rattle.std.specs.List.{AllByRecursion}
 use Rattle.std.proofs.lemmas.List.Concat.{flat_map-cons}
 use Rattle.cx_base.specs.declared.place.Place.{Place}
@@ -8,9 +8,12 @@ use Rattle.cx_lexer.specs.declared.token.TokenKind.{TokenKind}
 use Rattle.cx_lexer.specs.declared.token.TokenKind.TheVariants as kind
 use Rattle.cx_lexer.specs.Reading.{is_end}
 use Rattle.cx_lexer.specs.Tokens.{TokenTree}
-use Rattle.cx_tree.specs.UnitTree.{Mark, ExprTree, LiteralTree, CallTree, FunctionTree, UnitTree, expr_nodes, function_nodes, unit_nodes, IsNumberedFrom}
+use Rattle.cx_base.specs.declared.value.Scalar.TheVariants as scalar
+use Rattle.cx_tree.specs.Trees.{Mark, ExprTree, IntTree, NameTree, CallTree, no_expr, TypeTree, OfCore, ScalarTree}
+use Rattle.cx_tree.specs.Nodes.{expr_nodes, type_nodes}
+use Rattle.cx_tree.specs.UnitTree.{FunctionTree, UnitTree, function_nodes, unit_nodes, IsNumberedFrom}
 use Rattle.cx_parse_decl.specs.Grammar.{first_at, call_at, value_at, function_at, functions_at, unit_at}
-use Rattle.cx_parse_decl.specs.Spelling.{Wanted, punct, AreWanted, value_spelling, function_spelling, unit_spelling, IsValue, HasValue, Spells}
+use Rattle.cx_parse_decl.specs.Spelling.{Wanted, punct, AreWanted, value_spelling, function_spelling, unit_spelling, type_mark, IsValue, IsInt, GivesValue, Spells}
 use Rattle.cx_parse_decl.proofs.Ints.{int_again}
 use Rattle.cx_parse_decl.proofs.Steps.{token_again, name_again}
 use Rattle.cx_parse_decl.proofs.Wanted.{AreWantedThen, then_split, then_length, wanted_split, numbered_split}
@@ -30,27 +33,39 @@ same_read x y m n ts e q = rw (e, q) refl
 value_again : (v : ExprTree) (n : ℕ) (ts rest : List TokenTree) → AreWantedThen (value_spelling v) ts rest → IsValue v → IsNumberedFrom n (expr_nodes v)
     → value_at n ts ≡ Ok (v, n + length (expr_nodes v), rest)
 unfolding value_at first_at call_at
-value_again (LiteralTree mark value) n ts rest h is numbered =
+value_again (IntTree mark scalar.Int value) n ts rest h is numbered =
     let t = h.0 in
-    let same : LiteralTree (mark_of n t.at) value ≡ LiteralTree mark value = rw (same_mark mark n t.at numbered.0 h.3.at) refl in
+    let same : IntTree (mark_of n t.at) scalar.Int value ≡ IntTree mark scalar.Int value = rw (same_mark mark n t.at numbered.0 h.3.at) refl in
     rw (h.2, h.3.kind, int_again t.text value h.3.text, h.4) (same_read _ _ (n + 1) (n + 1) rest same refl)
-value_again (CallTree mark callee name) n ts rest h is numbered =
+value_again (CallTree mark (NameTree callee name) no_expr) n ts rest h is numbered =
     let t = h.0 in
     let o = h.4 in
     let c = o.4 in
     let same_callee = same_mark callee n t.at numbered.0 h.3.at in
     let same_call = same_mark mark (n + 1) t.at numbered.1.0 (h.3.at ∙ sym is) in
-    let same : CallTree (mark_of (n + 1) t.at) (mark_of n t.at) t.text ≡ CallTree mark callee name = rw (same_call, same_callee, h.3.text) refl in
+    let same : CallTree (mark_of (n + 1) t.at) (NameTree (mark_of n t.at) t.text) no_expr ≡ CallTree mark (NameTree callee name) no_expr = rw (same_call, same_callee, h.3.text) refl in
     rw (h.2, h.3.kind, token_again kind.Punct (codes "(") h.1 o.0 o.1 o.2 o.3.kind o.3.text, token_again kind.Punct (codes ")") o.1 c.0 c.1 c.2 c.3.kind c.3.text, c.4) (same_read _ _ (n + 2) (n + 2) rest same refl)
+value_again other n ts rest h is numbered = absurd is
 
-abbrev built : Mark → Mark → List ℕ → Mark → Mark → ExprTree → FunctionTree
+-- the type `int` and its one node
+abbrev int_of : Mark → TypeTree
+int_of m = OfCore m false (ScalarTree scalar.Int) false
+
+int_type : (t : TypeTree) → IsInt t → int_of (type_mark t) ≡ t
+int_type (OfCore m false (ScalarTree scalar.Int) false) h = refl
+int_type other h = absurd h
+
+int_nodes : (t : TypeTree) → IsInt t → type_nodes t ≡ type_mark t ∷ []
+int_nodes t h = ap type_nodes (sym (int_type t h))
+
+abbrev built : Mark → TypeTree → List ℕ → Mark → Mark → ExprTree → FunctionTree
 built mark type name body statement value = record { mark = mark; type = type; name = name; body = body; statement = statement; value = value }
 
-same_function : (f : FunctionTree) (mark type : Mark) (name : List ℕ) (body statement : Mark) → mark ≡ f.mark → type ≡ f.type → name ≡ f.name → body ≡ f.body → statement ≡ f.statement
+same_function : (f : FunctionTree) (mark : Mark) (type : TypeTree) (name : List ℕ) (body statement : Mark) → mark ≡ f.mark → type ≡ f.type → name ≡ f.name → body ≡ f.body → statement ≡ f.statement
     → built mark type name body statement f.value ≡ f
 same_function f mark type name body statement e1 e2 e3 e4 e5 = rw (e1, e2, e3, e4, e5) refl
 
-function_again : (f : FunctionTree) (n : ℕ) (ts rest : List TokenTree) → AreWantedThen (function_spelling f) ts rest → HasValue f → IsNumberedFrom n (function_nodes f)
+function_again : (f : FunctionTree) (n : ℕ) (ts rest : List TokenTree) → AreWantedThen (function_spelling f) ts rest → GivesValue f → IsNumberedFrom n (function_nodes f)
     → function_at n ts ≡ Ok (f, n + length (function_nodes f), rest)
 unfolding function_at
 function_again f n ts rest a is numbered =
@@ -63,14 +78,16 @@ function_again f n ts rest a is numbered =
     let h = tail.2 in
     let i = h.4 in
     let k : ℕ = n + 1 + length (expr_nodes f.value) in
-    let marks = numbered_split (n + 1) (expr_nodes f.value) (f.statement ∷ f.body ∷ f.mark ∷ []) numbered.1 in
-    let value = value_again f.value (n + 1) s.1 tail.0 tail.1 is marks.0 in
+    let nodes : function_nodes f ≡ type_mark f.type ∷ (expr_nodes f.value ++ f.statement ∷ f.body ∷ f.mark ∷ []) = ap (λ (ms : List Mark). ms ++ expr_nodes f.value ++ f.statement ∷ f.body ∷ f.mark ∷ []) (int_nodes f.type is.0) in
+    let one = subst (λ (ms : List Mark). IsNumberedFrom n ms) nodes numbered in
+    let marks = numbered_split (n + 1) (expr_nodes f.value) (f.statement ∷ f.body ∷ f.mark ∷ []) one.1 in
+    let value = value_again f.value (n + 1) s.1 tail.0 tail.1 is.1 marks.0 in
     let mark : mark_of (k + 2) b.0.at ≡ f.mark = same_mark f.mark (k + 2) b.0.at (omega (arith, marks.1.1.1.0)) b.3.at in
-    let type : mark_of n a.0.at ≡ f.type = same_mark f.type n a.0.at numbered.0 a.3.at in
+    let type : int_of (mark_of n a.0.at) ≡ f.type = ap int_of (same_mark (type_mark f.type) n a.0.at one.0 a.3.at) ∙ int_type f.type is.0 in
     let body : mark_of (k + 1) g.0.at ≡ f.body = same_mark f.body (k + 1) g.0.at marks.1.1.0 g.3.at in
     let statement : mark_of k s.0.at ≡ f.statement = same_mark f.statement k s.0.at marks.1.0 s.3.at in
-    let same = same_function f (mark_of (k + 2) b.0.at) (mark_of n a.0.at) b.0.text (mark_of (k + 1) g.0.at) (mark_of k s.0.at) mark type b.3.text body statement in
-    let next : k + 3 ≡ n + length (function_nodes f) = omega (arith, length-append (expr_nodes f.value) (f.statement ∷ f.body ∷ f.mark ∷ [])) in
+    let same = same_function f (mark_of (k + 2) b.0.at) (int_of (mark_of n a.0.at)) b.0.text (mark_of (k + 1) g.0.at) (mark_of k s.0.at) mark type b.3.text body statement in
+    let next : k + 3 ≡ n + length (function_nodes f) = omega (arith, ap (λ (ms : List Mark). length ms) nodes, length-append (expr_nodes f.value) (f.statement ∷ f.body ∷ f.mark ∷ [])) in
     rw (
       token_again kind.Word (codes "int") ts a.0 a.1 a.2 a.3.kind a.3.text,
       name_again a.1 b.0 b.1 b.2 b.3.kind,
@@ -95,7 +112,7 @@ one_again : (less n next : ℕ) (t : TokenTree) (behind rest : List TokenTree) (
 unfolding functions_at
 one_again less n next t behind rest f fs more first others = rw (more, first, others) refl
 
-functions_again : (u : UnitTree) (most n : ℕ) (ts : List TokenTree) → length ts ≤ most → AreWanted (unit_spelling u) ts → AllByRecursion HasValue u → IsNumberedFrom n (unit_nodes u)
+functions_again : (u : UnitTree) (most n : ℕ) (ts : List TokenTree) → length ts ≤ most → AreWanted (unit_spelling u) ts → AllByRecursion GivesValue u → IsNumberedFrom n (unit_nodes u)
     → functions_at most n ts ≡ Ok u
 unfolding functions_at
 functions_again [] most n [] room wanted values numbered = absurd wanted

@@ -2,17 +2,19 @@
 use Rattle.std.proofs.Common.{◌≡◌, ◌≤◌, ◌+◌, List, [], ◌∷◌, length, arith, length-append}
 use Rattle.std.specs.List.{AllByRecursion}
 use Rattle.cx_lexer.specs.Tokens.{TokenTree}
-use Rattle.cx_tree.specs.UnitTree.{ExprTree, LiteralTree, CallTree, FunctionTree, UnitTree, IsIntValue, HasIntValue}
-use Rattle.cx_parse_decl.specs.Spelling.{Wanted, AreWanted, function_spelling, unit_spelling, IsValue, HasValue, Spells}
+use Rattle.cx_base.specs.declared.value.Scalar.TheVariants as scalar
+use Rattle.cx_tree.specs.Trees.{ExprTree, IntTree}
+use Rattle.cx_tree.specs.UnitTree.{FunctionTree, UnitTree, IsIntValue, HasIntValue}
+use Rattle.cx_parse_decl.specs.Spelling.{Wanted, AreWanted, function_spelling, unit_spelling, IsValue, GivesValue, Spells}
 
 int_value : (value : ExprTree) → IsValue value → IsIntValue value
-int_value (LiteralTree mark value) h = h
-int_value (CallTree mark callee name) h = tt
+int_value (IntTree mark scalar.Int value) h = h
+int_value other h = tt
 
 -- each literal of a unit that is spelled is a value of int
-pub int_values : (u : UnitTree) → AllByRecursion HasValue u → AllByRecursion HasIntValue u
+pub int_values : (u : UnitTree) → AllByRecursion GivesValue u → AllByRecursion HasIntValue u
 int_values [] h = tt
-int_values (f ∷ fs) h = (int_value f.value h.0, int_values fs h.1)
+int_values (f ∷ fs) h = (int_value f.value h.0.1, int_values fs h.1)
 
 -- as many tokens as are wanted, and the end
 wanted_length : (ws : List Wanted) (ts : List TokenTree) → AreWanted ws ts → length ws + 1 ≡ length ts

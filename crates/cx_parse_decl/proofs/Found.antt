@@ -8,9 +8,12 @@ use Rattle.cx_lexer.specs.declared.token.TokenKind.TheVariants as kind
 use Rattle.cx_lexer.specs.Division.{EndsOnce}
 use Rattle.cx_lexer.specs.Reading.{is_end}
 use Rattle.cx_lexer.specs.Tokens.{TokenTree}
-use Rattle.cx_tree.specs.UnitTree.{Mark, LiteralTree, CallTree, FunctionTree, UnitTree, expr_nodes, function_nodes, unit_nodes, IsNumberedFrom}
+use Rattle.cx_base.specs.declared.value.Scalar.TheVariants as scalar
+use Rattle.cx_tree.specs.Trees.{Mark, IntTree, NameTree, CallTree, no_expr, OfCore, ScalarTree}
+use Rattle.cx_tree.specs.Nodes.{expr_nodes}
+use Rattle.cx_tree.specs.UnitTree.{FunctionTree, UnitTree, function_nodes, unit_nodes, IsNumberedFrom}
 use Rattle.cx_parse_decl.specs.Grammar.{first_at, word_at, punct_at, name_at, call_at, int_value, literal_of, value_by, value_at, function_at, functions_at, unit_at}
-use Rattle.cx_parse_decl.specs.Spelling.{Wanted, punct, AreWanted, value_spelling, function_spelling, unit_spelling, IsValue, HasValue, Spells}
+use Rattle.cx_parse_decl.specs.Spelling.{Wanted, punct, AreWanted, value_spelling, function_spelling, unit_spelling, IsValue, GivesValue, Spells}
 use Rattle.cx_parse_decl.proofs.Ended.{IsCons, then_ended}
 use Rattle.cx_parse_decl.proofs.Ints.{int_found, int_small}
 use Rattle.cx_parse_decl.proofs.Steps.{ValueStep, FunctionStep, made, at_end, at_semicolon, at_value, at_statement, at_body, at_close, at_open, at_name, call_made, call_close, bind_ok, ok_is, token_found, name_found}
@@ -28,7 +31,7 @@ unfolding call_at
 call_found n t behind x is e =
     let a = bind_ok (punct_at (codes "(") behind) (call_close n t) x e in
     let b = bind_ok (punct_at (codes ")") a.0.1) (call_made n t) x a.2 in
-    let same : (CallTree (record { node = n + 1; at = t.at }) (record { node = n; at = t.at }) t.text, n + 2, b.0.1) ≡ x = ok_is _ x b.2 in
+    let same : (CallTree (record { node = n + 1; at = t.at }) (NameTree (record { node = n; at = t.at }) t.text) no_expr, n + 2, b.0.1) ≡ x = ok_is _ x b.2 in
     let fa = token_found kind.Punct (codes "(") behind a.0 a.1 in
     let fb = token_found kind.Punct (codes ")") a.0.1 b.0 b.1 in
     subst (λ (y : ValueStep). ValueFound n (t ∷ behind) y) same (record {
@@ -53,7 +56,7 @@ call_found n t behind x is e =
 literal_found : (o : Option ℕ) (n : ℕ) (t : TokenTree) (behind : List TokenTree) (x : ValueStep) → t.kind ≡ kind.Int → int_value t.text ≡ o → literal_of n o t behind ≡ Ok x → ValueFound n (t ∷ behind) x
 literal_found None n t behind x is says e = absurd cc
 literal_found (Some value) n t behind x is says e =
-    let same : (LiteralTree (record { node = n; at = t.at }) value, n + 1, behind) ≡ x = ok_is _ x e in
+    let same : (IntTree (record { node = n; at = t.at }) scalar.Int value, n + 1, behind) ≡ x = ok_is _ x e in
     subst (λ (y : ValueStep). ValueFound n (t ∷ behind) y) same (record {
       spelled = (t, behind, refl, record { kind = is; text = int_found t.text value says; at = refl }, refl);
       value = int_small t.text value says;
@@ -77,7 +80,7 @@ value_found n (t ∷ behind) x e = value_by_found t.kind n t behind x refl e
 -- a function that was read from the n-th node on
 pub record FunctionFound (n : ℕ) (ts : List TokenTree) (x : FunctionStep) : Type 0 where
   pub spelled : AreWantedThen (function_spelling x.0) ts x.2
-  pub value : HasValue x.0
+  pub value : GivesValue x.0
   pub numbered : IsNumberedFrom n (function_nodes x.0)
   pub next : x.1 ≡ n + length (function_nodes x.0)
 
@@ -95,7 +98,7 @@ function_found n ts x e =
     let i = bind_ok (punct_at (codes "}") h.0.1) (made n a.0 b.0 g.0 s.0 v.0) x h.2 in
     let f : FunctionTree = record {
       mark = record { node = v.0.1 + 2; at = b.0.0.at };
-      type = record { node = n; at = a.0.0.at };
+      type = OfCore (record { node = n; at = a.0.0.at }) false (ScalarTree scalar.Int) false;
       name = b.0.0.text;
       body = record { node = v.0.1 + 1; at = g.0.0.at };
       statement = record { node = v.0.1; at = s.0.0.at };
@@ -152,7 +155,7 @@ function_found n ts x e =
           ),
         ),
       );
-      value = fv.value;
+      value = (tt, fv.value);
       numbered = (refl, numbered_join (n + 1) (expr_nodes v.0.0) (f.statement ∷ f.body ∷ f.mark ∷ []) fv.numbered last);
       next = omega (arith, fv.next, length-append (expr_nodes v.0.0) (f.statement ∷ f.body ∷ f.mark ∷ []));
     })
@@ -184,7 +187,7 @@ end_alone t (u ∷ us) ended end = absurd (ended.0 end)
 -- functions that were read from the n-th node on
 record FunctionsFound (n : ℕ) (ts : List TokenTree) (u : UnitTree) : Type 0 where
   wanted : AreWanted (unit_spelling u) ts
-  values : AllByRecursion HasValue u
+  values : AllByRecursion GivesValue u
   numbered : IsNumberedFrom n (unit_nodes u)
 
 one_more : (n next : ℕ) (ts rest : List TokenTree) (f : FunctionTree) (fs : UnitTree) → FunctionFound n ts (f, next, rest) → FunctionsFound next rest fs → FunctionsFound n ts (f ∷ fs)

@@ -1,6 +1,5 @@
 -- Literals of type int.
-use Rattle.std.proofs.Common.{◌≡◌, ℕ, ◌≤◌, leb, inl, inr, List, [], ◌∷◌, Option, Some, None, refl, sym, ap, ◌∙◌, subst}
-use Rattle.std.specs.Option.{option_map}
+use Rattle.std.proofs.Common.{◌≡◌, ℕ, ◌≤◌, leb, inl, inr, List, [], ◌∷◌, Option, Some, None, refl, subst}
 use Rattle.std.proofs.lemmas.Bool.{cases_Bool, leb-true}
 use Rattle.cx_base.specs.declared.value.Scalar.{Scalar}
 use Rattle.cx_base.specs.declared.value.Scalar.TheVariants as scalar
@@ -46,28 +45,3 @@ pub int_small : (text : List ℕ) (value : ℕ) → int_value text ≡ Some valu
 int_small text value e =
     let h = int_found text value e in
     subst (λ (n : ℕ). n ≤ 2147483647) h.1 (int_held text h.0)
-
--- ---- a literal's type and value
-
-abbrev typed : Option Scalar → ℕ → Option (Scalar × ℕ)
-typed o n = option_map (λ ty. (ty, n)) o
-
-abbrev some : Scalar → Option Scalar
-some ty = Some ty
-
-abbrev both : Scalar → ℕ → Scalar × ℕ
-both ty n = (ty, n)
-
-abbrev pair : Scalar → ℕ → Option (Scalar × ℕ)
-pair ty n = Some (ty, n)
-
-of_typed : (o : Option Scalar) (n value : ℕ) (ty : Scalar) → pair ty value ≡ typed o n → (o ≡ Some ty) × (n ≡ value)
-of_typed None n value ty e = absurd cc
-of_typed (Some t) n value ty e =
-    let same : both ty value ≡ both t n = cc in
-    (ap (λ (p : Scalar × ℕ). some p.0) (sym same), ap (λ (p : Scalar × ℕ). p.1) (sym same))
-
-pub literal_small : (text : List ℕ) (value : ℕ) (ty : Scalar) → pair ty value ≡ typed (type_of text) (value_of text) → ty ≡ scalar.Int → value ≤ 2147483647
-literal_small text value ty e int =
-    let h = of_typed (type_of text) (value_of text) value ty e in
-    subst (λ (n : ℕ). n ≤ 2147483647) h.1 (int_held text (h.0 ∙ ap (λ (t : Scalar). some t) int))

@@ -11,7 +11,9 @@ use Rattle.cx_lexer.specs.Literals.{type_of, value_of, digits_of, suffix_of, is_
 use Rattle.cx_lexer.specs.Places.{start}
 use Rattle.cx_lexer.specs.Tokens.{TokenTree}
 use Rattle.cx_lexer.specs.Words.{has_word, unsigned_suffixes, long_suffixes, unsigned_long_suffixes}
-use Rattle.cx_tree.specs.UnitTree.{ExprTree, LiteralTree, CallTree, FunctionTree}
+use Rattle.cx_base.specs.declared.value.Scalar.TheVariants as scalar
+use Rattle.cx_tree.specs.Trees.{ExprTree, IntTree, NameTree, CallTree, no_expr, OfCore, ScalarTree}
+use Rattle.cx_tree.specs.UnitTree.{FunctionTree}
 use Rattle.cx_parse_decl.specs.Fault.{misfit}
 use Rattle.cx_parse_decl.specs.Grammar.{first_at, is_token, token_at, word_at, punct_at, name_of, name_at, call_at, int_value, literal_of, value_by, value_at, function_at}
 use Rattle.cx_parse_decl.proofs.Steps.{Step, ValueStep, FunctionStep, made, at_end, at_semicolon, at_value, at_statement, at_body, at_close, at_open, at_name, call_made, call_close, token_is, token_again, name_again}
@@ -237,7 +239,7 @@ unfolding call_at
 call_reader n t =
     then (punct_at (codes "(")) (call_close n t) pair triple (punct_reader (codes "("))
     (λ a. then (punct_at (codes ")")) (call_made n t) pair triple (punct_reader (codes ")"))
-    (λ b. at_once triple (CallTree (record { node = n + 1; at = t.at }) (record { node = n; at = t.at }) t.text, n + 2)))
+    (λ b. at_once triple (CallTree (record { node = n + 1; at = t.at }) (NameTree (record { node = n; at = t.at }) t.text) no_expr, n + 2)))
 
 value_is : (n : ℕ) (k : TokenKind) (t : TokenTree) (more : List TokenTree) → t.kind ≡ k → value_at n (t ∷ more) ≡ value_by n k t more
 unfolding value_at first_at
@@ -249,7 +251,7 @@ value_is_literal n o t more e says = rw (e, says) refl
 
 literal_went : (n : ℕ) (o : Option ℕ) (t : TokenTree) (behind : List TokenTree) → t.kind ≡ kind.Int → int_value t.text ≡ o → EndsOnce (t ∷ behind) → Fits (value_at n) triple [] → Went (value_at n) triple (t ∷ behind)
 literal_went n (Some value) t behind e says ended fits =
-    took_first (value_at n) triple t behind (LiteralTree (record { node = n; at = t.at }) value, n + 1) (λ more. value_is_literal n (Some value) t more e says) (ended_rest t behind ended (λ end. cc))
+    took_first (value_at n) triple t behind (IntTree (record { node = n; at = t.at }) scalar.Int value, n + 1) (λ more. value_is_literal n (Some value) t more e says) (ended_rest t behind ended (λ end. cc))
 literal_went n None t behind e says ended fits = stopped_first (value_at n) triple t behind (λ more. value_is_literal n None t more e says) fits
 
 value_by_kind : (n : ℕ) (k : TokenKind) (t : TokenTree) (behind : List TokenTree) → t.kind ≡ k → EndsOnce (t ∷ behind) → Fits (value_at n) triple [] → Went (value_at n) triple (t ∷ behind)
@@ -269,7 +271,7 @@ value_fits : (n : ℕ) → Fits (value_at n) triple []
 value_fits n = record {
   more = sample kind.Int (codes "0") ∷ [];
   kinds = ((λ e. cc), tt);
-  value = (LiteralTree (record { node = n; at = start }) 0, n + 1);
+  value = (IntTree (record { node = n; at = start }) scalar.Int 0, n + 1);
   reads = λ rest. value_is_literal n (Some 0) (sample kind.Int (codes "0")) rest refl zero_is;
 }
 
@@ -297,7 +299,7 @@ function_reader n =
     (λ i. at_once function_triple (
       record {
         mark = record { node = v.1 + 2; at = b.at };
-        type = record { node = n; at = a.at };
+        type = OfCore (record { node = n; at = a.at }) false (ScalarTree scalar.Int) false;
         name = b.text;
         body = record { node = v.1 + 1; at = g.at };
         statement = record { node = v.1; at = s.at };

@@ -7,7 +7,9 @@ use Rattle.cx_base.specs.Refusal.{Refusal, ◌>>=◌}
 use Rattle.cx_lexer.specs.declared.token.TokenKind.{TokenKind}
 use Rattle.cx_lexer.specs.declared.token.TokenKind.TheVariants as kind
 use Rattle.cx_lexer.specs.Tokens.{TokenTree}
-use Rattle.cx_tree.specs.UnitTree.{ExprTree, CallTree, FunctionTree}
+use Rattle.cx_base.specs.declared.value.Scalar.TheVariants as scalar
+use Rattle.cx_tree.specs.Trees.{ExprTree, NameTree, CallTree, no_expr, OfCore, ScalarTree}
+use Rattle.cx_tree.specs.UnitTree.{FunctionTree}
 use Rattle.cx_lexer.specs.contracts.token.TokenKind.{the_type}
 use denote.Enum.Bare.{same_true, true_same}
 use Rattle.cx_parse_decl.specs.Fault.{misfit}
@@ -28,7 +30,7 @@ abbrev pub made : ℕ → Step → Step → Step → Step → ValueStep → Step
 made n type name body statement value end = Ok (
   record {
     mark = record { node = value.1 + 2; at = name.0.at };
-    type = record { node = n; at = type.0.at };
+    type = OfCore (record { node = n; at = type.0.at }) false (ScalarTree scalar.Int) false;
     name = name.0.text;
     body = record { node = value.1 + 1; at = body.0.at };
     statement = record { node = value.1; at = statement.0.at };
@@ -63,7 +65,7 @@ abbrev pub at_name : ℕ → Step → Result FunctionStep Refusal
 at_name n type = name_at type.1 >>= at_open n type
 
 abbrev pub call_made : ℕ → TokenTree → Step → Result ValueStep Refusal
-call_made n name close_round = Ok (CallTree (record { node = n + 1; at = name.at }) (record { node = n; at = name.at }) name.text, n + 2, close_round.1)
+call_made n name close_round = Ok (CallTree (record { node = n + 1; at = name.at }) (NameTree (record { node = n; at = name.at }) name.text) no_expr, n + 2, close_round.1)
 
 abbrev pub call_close : ℕ → TokenTree → Step → Result ValueStep Refusal
 call_close n name open_round = punct_at (codes ")") open_round.1 >>= call_made n name

@@ -1,7 +1,8 @@
 -- Tokens that are wanted ones, and others behind them.
 use Rattle.std.proofs.Common.{◌≡◌, ℕ, ◌+◌, List, [], ◌∷◌, ◌++◌, length, refl, sym, subst, arith}
 use Rattle.cx_lexer.specs.Tokens.{TokenTree}
-use Rattle.cx_tree.specs.UnitTree.{Mark, IsNumberedFrom}
+use Rattle.cx_tree.specs.Trees.{Mark}
+use Rattle.cx_tree.specs.UnitTree.{IsNumberedFrom}
 use Rattle.cx_parse_decl.specs.Spelling.{Wanted, IsWanted, AreWanted}
 
 -- the tokens are the wanted ones, and the rest behind them

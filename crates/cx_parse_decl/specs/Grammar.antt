@@ -6,7 +6,7 @@
 --
 -- What is no unit is refused at the first token that does not fit. A definition of a part takes the tokens from the
 -- part's first one on and gives the part and the tokens behind it; one that numbers nodes takes the first number too.
-use Rattle.std.specs.Prelude.{ℕ, zero, suc, ◌+◌, Bool, ◌&&◌, List, [], ◌∷◌, length, codes, Option, Some, None, Result, Ok, Err, if◌then◌else◌}
+use Rattle.std.specs.Prelude.{ℕ, zero, suc, ◌+◌, Bool, false, ◌&&◌, List, [], ◌∷◌, length, codes, Option, Some, None, Result, Ok, Err, if◌then◌else◌}
 use Rattle.std.specs.Str.{bytes_eq}
 use Rattle.cx_base.specs.Refusal.{Refusal, ◌>>=◌}
 use Rattle.cx_base.specs.declared.value.Scalar.{Scalar}
@@ -19,7 +19,8 @@ use Rattle.cx_lexer.specs.Literals.{value_of, type_of}
 use Rattle.cx_lexer.specs.Places.{start}
 use Rattle.cx_lexer.specs.Reading.{is_end}
 use Rattle.cx_lexer.specs.Tokens.{TokenTree, end_at}
-use Rattle.cx_tree.specs.UnitTree.{ExprTree, LiteralTree, CallTree, FunctionTree, UnitTree}
+use Rattle.cx_tree.specs.Trees.{ExprTree, IntTree, NameTree, CallTree, no_expr, OfCore, ScalarTree}
+use Rattle.cx_tree.specs.UnitTree.{FunctionTree, UnitTree}
 use Rattle.cx_parse_decl.specs.Fault.{misfit}
 
 -- The fault where tokens run out, which they do nowhere where the end stands last: as if the end stood at the start.
@@ -67,7 +68,7 @@ unfoldable pub call_at : ℕ → TokenTree → List TokenTree → Result (ExprTr
 call_at n name ts = do
   open_round ← punct_at (codes "(") ts
   close_round ← punct_at (codes ")") open_round.1
-  Ok (CallTree (record { node = n + 1; at = name.at }) (record { node = n; at = name.at }) name.text, n + 2, close_round.1)
+  Ok (CallTree (record { node = n + 1; at = name.at }) (NameTree (record { node = n; at = name.at }) name.text) no_expr, n + 2, close_round.1)
 
 -- The value of a literal, where its type is int.
 abbrev pub int_of : Option Scalar → ℕ → Option ℕ
@@ -79,7 +80,7 @@ int_value text = int_of (type_of text) (value_of text)
 
 -- A literal of type int, the number of the next node, and the tokens behind it.
 abbrev pub literal_of : ℕ → Option ℕ → TokenTree → List TokenTree → Result (ExprTree × ℕ × List TokenTree) Refusal
-literal_of n (Some value) t ts = Ok (LiteralTree (record { node = n; at = t.at }) value, n + 1, ts)
+literal_of n (Some value) t ts = Ok (IntTree (record { node = n; at = t.at }) scalar.Int value, n + 1, ts)
 literal_of n None t ts = Err (misfit t)
 
 -- A value from the n-th node on, the number of the next node, and the tokens behind it.
@@ -108,7 +109,7 @@ function_at n ts = do
   Ok (
     record {
       mark = record { node = value.1 + 2; at = name.0.at };
-      type = record { node = n; at = type.0.at };
+      type = OfCore (record { node = n; at = type.0.at }) false (ScalarTree scalar.Int) false;
       name = name.0.text;
       body = record { node = value.1 + 1; at = body.0.at };
       statement = record { node = value.1; at = statement.0.at };

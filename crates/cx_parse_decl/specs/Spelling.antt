@@ -1,5 +1,5 @@
 -- What it is for tokens to spell a unit. No reading is in it.
-use Rattle.std.specs.Prelude.{◌≡◌, ◌≤◌, ℕ, List, [], ◌∷◌, ◌++◌, codes, Option, Some, None, IfSome}
+use Rattle.std.specs.Prelude.{◌≡◌, ◌≤◌, ℕ, false, List, [], ◌∷◌, ◌++◌, codes, Option, Some, None, IfSome}
 use Rattle.std.specs.List.{flat_map, AllByRecursion}
 use Rattle.cx_base.specs.Refusal.{Refusal}
 use Rattle.cx_base.specs.declared.place.Place.{Place}
@@ -8,7 +8,8 @@ use Rattle.cx_lexer.specs.declared.token.TokenKind.{TokenKind}
 use Rattle.cx_lexer.specs.declared.token.TokenKind.TheVariants as kind
 use Rattle.cx_lexer.specs.Literals.{value_of, type_of}
 use Rattle.cx_lexer.specs.Tokens.{TokenTree}
-use Rattle.cx_tree.specs.UnitTree.{ExprTree, LiteralTree, CallTree, FunctionTree, UnitTree, unit_nodes, IsNumberedFrom}
+use Rattle.cx_tree.specs.Trees.{Mark, ExprTree, IntTree, NameTree, CallTree, no_expr, TypeTree, OfCore, ScalarTree}
+use Rattle.cx_tree.specs.UnitTree.{FunctionTree, UnitTree, unit_nodes, IsNumberedFrom}
 use Rattle.cx_parse_decl.specs.Fault.{misfit}
 
 -- A text that a tree wants: these bytes, or those of any literal of type int that has a value.
@@ -38,15 +39,20 @@ named text at = record { kind = kind.Name; text = Exactly text; at = Some at }
 abbrev pub number : ℕ → Place → Wanted
 number value at = record { kind = kind.Int; text = Saying value; at = Some at }
 
--- A value is a literal, which says its number, or a name and `()`.
+-- A value is a literal, which says its number, or a name and `()`. A tree of another form is no value.
 abbrev pub value_spelling : ExprTree → List Wanted
-value_spelling (LiteralTree mark value) = number value mark.at ∷ []
-value_spelling (CallTree mark callee name) = named name callee.at ∷ punct (codes "(") None ∷ punct (codes ")") None ∷ []
+value_spelling (IntTree mark scalar.Int value) = number value mark.at ∷ []
+value_spelling (CallTree mark (NameTree callee name) no_expr) = named name callee.at ∷ punct (codes "(") None ∷ punct (codes ")") None ∷ []
+value_spelling other = []
+
+-- a type's own node
+abbrev pub type_mark : TypeTree → Mark
+type_mark (OfCore mark constant core reference) = mark
 
 -- int NAME ( ) { return VALUE ; }
 abbrev pub function_spelling : FunctionTree → List Wanted
 function_spelling f =
-    (word (codes "int") f.type.at ∷ named f.name f.mark.at ∷ punct (codes "(") None ∷ punct (codes ")") None
+    (word (codes "int") (type_mark f.type).at ∷ named f.name f.mark.at ∷ punct (codes "(") None ∷ punct (codes ")") None
     ∷ punct (codes "{") (Some f.body.at) ∷ word (codes "return") f.statement.at ∷ [])
     ++ value_spelling f.value ++ (punct (codes ";") None ∷ punct (codes "}") None ∷ [])
 
@@ -69,16 +75,22 @@ AreWanted (w ∷ ws) (t ∷ ts) = IsWanted w t × AreWanted ws ts
 
 -- A literal is a value of int, and a call stands at its name.
 abbrev pub IsValue : ExprTree → Type 0
-IsValue (LiteralTree mark value) = value ≤ 2147483647
-IsValue (CallTree mark callee name) = mark.at ≡ callee.at
+IsValue (IntTree mark scalar.Int value) = value ≤ 2147483647
+IsValue (CallTree mark (NameTree callee name) no_expr) = mark.at ≡ callee.at
+IsValue other = ⊥
 
-abbrev pub HasValue : FunctionTree → Type 0
-HasValue f = IsValue f.value
+abbrev pub IsInt : TypeTree → Type 0
+IsInt (OfCore mark false (ScalarTree scalar.Int) false) = Unit {0}
+IsInt other = ⊥
+
+-- the result is `int`, and the value is one
+abbrev pub GivesValue : FunctionTree → Type 0
+GivesValue f = IsInt f.type × IsValue f.value
 
 -- The tokens spell the unit, whose nodes are numbered from 0.
 pub record Spells (ts : List TokenTree) (u : UnitTree) : Type 0 where
   pub wanted : AreWanted (unit_spelling u) ts
-  pub values : AllByRecursion HasValue u
+  pub values : AllByRecursion GivesValue u
   pub numbered : IsNumberedFrom 0 (unit_nodes u)
 
 -- Some unit begins with these tokens.

@@ -8,9 +8,9 @@ ghost use Rattle.cx_parse_decl.specs.Rest.{rest_at};
 
 use crate::tokens::{name, punct, word};
 use crate::values::value;
-use cx_base::{NodeId, Stop};
+use cx_base::{NodeId, Scalar, Stop};
 use cx_lexer::Token;
-use cx_tree::{Block, Function, Return, TypeSyn};
+use cx_tree::{Block, Core, Function, Return, TypeSyn};
 use std::alloc::Global;
 
 /// The function at an index, the number of the next node, and the index behind it. Its nodes are numbered from `node` on.
@@ -52,6 +52,9 @@ pub(crate) fn function_definition<'s>(
         result: TypeSyn {
             node: NodeId(node),
             at: int.at,
+            constant: false,
+            core: Core::Scalar(Scalar::Int),
+            reference: false,
         },
         name: name.text,
         body,

@@ -7,12 +7,12 @@ use cx_lexer::literal;
 
 /// The value of a literal, where its type is int.
 #[tactic(auto, unfolding(crate::specs::Grammar::int_value))]
-pub(crate) fn int_value(text: &str) -> Option<u32>
+pub(crate) fn int_value(text: &str) -> Option<u64>
     requires { is_literal text.now ≡ true }
     ensures { result ≡ int_value text.now }
 {
     match literal(text) {
-        Some((Scalar::Int, value)) => Some(value as u32),
+        Some((Scalar::Int, value)) => Some(value),
         _ => None,
     }
 }

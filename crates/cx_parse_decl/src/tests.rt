@@ -1,5 +1,5 @@
 use super::*;
-use cx_base::{Fault, Kind, NodeId, Place, Stop};
+use cx_base::{Fault, Kind, NodeId, Place, Scalar, Stop};
 use cx_lexer::{lex, one_division};
 use cx_tree::{Expr, Unit};
 use std::alloc::Global;
@@ -61,27 +61,45 @@ fn a_function_with_a_call(rt: HostRuntime) -> Result<(), Fail> {
     Ok(())
 }
 
+fn is_name(expr: &Expr, number: NodeId, text: &str) -> bool {
+    match expr {
+        Expr::Name { node, name, .. } => *node == number && *name == text,
+        _ => false,
+    }
+}
+
 #[test]
 fn values(rt: HostRuntime) -> Result<(), Fail> {
     let unit = parsed(&rt, rt.alloc(), TWO)?;
     assert_eq!(rt; unit.functions.len(), 2);
     match &unit.functions[0].body.statement.value {
-        Expr::Literal(literal) => {
-            assert_eq!(rt; literal.value, 7);
-            assert_eq!(rt; literal.node, NodeId(1));
-            assert_eq!(rt; literal.at, place(1, 18));
+        Expr::Int {
+            node,
+            at,
+            scalar,
+            value,
+        } => {
+            assert_eq!(rt; *value, 7);
+            assert_eq!(rt; *scalar, Scalar::Int);
+            assert_eq!(rt; *node, NodeId(1));
+            assert_eq!(rt; *at, place(1, 18));
         }
-        Expr::Call(_) => assert!(rt; false),
+        _ => assert!(rt; false),
     }
     match &unit.functions[1].body.statement.value {
-        Expr::Literal(_) => assert!(rt; false),
-        Expr::Call(call) => {
-            assert_eq!(rt; call.node, NodeId(7));
-            assert_eq!(rt; call.at, place(1, 40));
-            assert_eq!(rt; call.callee.node, NodeId(6));
-            assert_eq!(rt; call.callee.at, place(1, 40));
-            assert_eq!(rt; call.callee.text, "a");
+        Expr::Call {
+            node,
+            at,
+            callee,
+            arguments,
+        } => {
+            assert_eq!(rt; *node, NodeId(7));
+            assert_eq!(rt; *at, place(1, 40));
+            assert_eq!(rt; callee.at(), place(1, 40));
+            assert!(rt; is_name(callee, NodeId(6), "a"));
+            assert!(rt; arguments.is_empty());
         }
+        _ => assert!(rt; false),
     }
     Ok(())
 }
@@ -95,7 +113,7 @@ fn no_functions(rt: HostRuntime) -> Result<(), Fail> {
 
 #[test]
 fn literals_of_type_int(rt: HostRuntime) -> Result<(), Fail> {
-    let cases: [(&[u8], u32); 5] = [
+    let cases: [(&[u8], u64); 5] = [
         (b"int f() { return 0; }", 0),
         (b"int f() { return 2147483647; }", 2147483647),
         (b"int f() { return 0x0; }", 0),
@@ -106,8 +124,8 @@ fn literals_of_type_int(rt: HostRuntime) -> Result<(), Fail> {
         let unit = parsed(&rt, rt.alloc(), text)?;
         assert_eq!(rt; unit.functions.len(), 1, "{text:?}");
         match &unit.functions[0].body.statement.value {
-            Expr::Literal(literal) => assert_eq!(rt; literal.value, value, "{text:?}"),
-            Expr::Call(_) => assert!(rt; false),
+            Expr::Int { value: read, .. } => assert_eq!(rt; *read, value, "{text:?}"),
+            _ => assert!(rt; false),
         }
     }
     Ok(())

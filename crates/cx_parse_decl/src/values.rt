@@ -2,16 +2,16 @@ ghost use Rattle.std.specs.Prelude.{◌≡◌, ◌+◌, ◌<◌, ◌≤◌, ◌^
 ghost use Rattle.cx_base.specs.Refusal.{Gives};
 ghost use Rattle.cx_lexer.specs.Division.{AreSpelled};
 ghost use Rattle.cx_lexer.specs.Tokens.{token_tree};
-ghost use Rattle.cx_tree.specs.UnitTree.{expr_tree};
+ghost use Rattle.cx_tree.specs.Trees.{expr_tree};
 ghost use Rattle.cx_parse_decl.specs.Grammar.{value_at, call_at};
 ghost use Rattle.cx_parse_decl.specs.Rest.{rest_at};
 
 use crate::fault::misfit;
 use crate::literal::int_value;
 use crate::tokens::{punct, token};
-use cx_base::{NodeId, Stop};
+use cx_base::{NodeId, Scalar, Stop};
 use cx_lexer::{Token, TokenKind};
-use cx_tree::{Call, Expr, Literal, Name};
+use cx_tree::Expr;
 use std::alloc::Global;
 
 /// The call of a name, whose `()` is at an index, the number of the next node, and the index behind it.
@@ -30,17 +30,18 @@ fn call<'s>(
 {
     let (_, from) = punct(alloc, tokens, from, "(")?;
     let (_, from) = punct(alloc, tokens, from, ")")?;
-    let callee = Name {
+    let callee = Expr::Name {
         node: NodeId(node),
         at: name.at,
-        text: name.text,
+        name: name.text,
     };
-    let call = Call {
+    let call = Expr::Call {
         node: NodeId(node + 1),
         at: name.at,
-        callee,
+        callee: Box::new(alloc, callee)?,
+        arguments: Vec::new(alloc),
     };
-    Ok((Expr::Call(call), node + 2, from))
+    Ok((call, node + 2, from))
 }
 
 /// The value at an index, the number of the next node, and the index behind it. Its nodes are numbered from `node` on.
@@ -61,12 +62,13 @@ pub(crate) fn value<'s>(
     match token.kind {
         TokenKind::Int => match int_value(token.text) {
             Some(value) => {
-                let literal = Literal {
+                let literal = Expr::Int {
                     node: NodeId(node),
                     at: token.at,
+                    scalar: Scalar::Int,
                     value,
                 };
-                Ok((Expr::Literal(literal), node + 1, from + 1))
+                Ok((literal, node + 1, from + 1))
             }
             None => Err(misfit(alloc, &token)),
         },

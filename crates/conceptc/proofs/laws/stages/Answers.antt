@@ -1,4 +1,4 @@
-use Rattle.conceptc.proofs.StageLemmas.{Laws, is_spelled, is_read, lexical, lexical_only, is_syntax, is_misfit, no_unit, no_limit}
+use Rattle.conceptc.proofs.StageLemmas.{Laws, is_spelled, is_read, lexical, lexical_only, is_syntax, is_misfit, is_passed, no_unit, no_limit}
 use Rattle.conceptc.proofs.laws.stages.Goals as goal
 
 pub returns : goal.returns
@@ -21,6 +21,7 @@ returns c =
       lexical_only = lexical_only laws;
       syntax = is_syntax laws;
       misfit = is_misfit laws;
+      forms = is_passed laws;
       no_unit = no_unit laws;
       limits = no_limit laws;
     }
