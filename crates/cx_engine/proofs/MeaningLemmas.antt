@@ -27,6 +27,7 @@ use Rattle.cx_tree.specs.Trees.{ExprTree, IntTree, BoolTree, NameTree, TemplateT
 use Rattle.cx_tree.specs.UnitTree.{FunctionTree, UnitTree}
 use Rattle.cx_engine.specs.Forms.{Mention, mention_of, is_int_literal, is_built_unary, plain_operator, first_of, unbuilt_in, unbuilt_type, unbuilt_function, first_unbuilt, is_built, forms_unit}
 use Rattle.cx_engine.specs.Names.{Declared, declared, declaration_of, number_of, is_new, is_known, calls_in, names_called, names_function, names_functions}
+use Rattle.cx_engine.proofs.FormsLemmas.{forms_pass}
 use Rattle.cx_engine.specs.Plain.{unbuilt, plain_call, plain_unary, plain_binary, plain_expr, plain_function}
 use Rattle.cx_engine.specs.SourceMeaning.{function_named, unary_meaning, binary_meaning, call_of, value_meaning, body_meaning, call_meaning, meaning}
 
@@ -303,14 +304,6 @@ built_at (g ∷ gs) zero f built at =
     let is : g ≡ f = cc in
     subst (λ (h : FunctionTree). unbuilt_in h.value ≡ None) is value.1
 built_at (g ∷ gs) (suc k) f built at = built_at gs k f (first_none (unbuilt_function g) (first_unbuilt gs) built).1 at
-
-forms_pass : (u : UnitTree) → forms_unit u ≡ Ok tt → first_unbuilt u ≡ None
-unfolding forms_unit
-forms_pass u e = by (first_unbuilt u) e
-  where
-    by : (o : Option Place) → is_built o ≡ Ok tt → o ≡ None
-    by None h = refl
-    by (Some at) h = absurd cc
 
 -- the plain functions of a unit
 abbrev plain_functions : UnitTree → List PlainFunction

@@ -6,9 +6,15 @@ use Rattle.cx_base.specs.Refusal.{Refusal, Stops, ◌>>=◌}
 use Rattle.cx_base.specs.declared.stop.Stop.{Stop}
 use Rattle.cx_base.specs.declared.stop.Stop.TheVariants as stop
 use Rattle.cx_tree.specs.declared.function.Function.{Function}
+use Rattle.cx_base.specs.declared.numbers.NodeId.{NodeId}
+use Rattle.cx_base.specs.declared.place.Place.{Place}
+use Rattle.cx_tree.specs.declared.operators.BinaryOperator.{BinaryOperator}
+use Rattle.cx_tree.specs.declared.expression.Expr.TheVariants as expr
+use Rattle.cx_tree.specs.declared.expression.Expr.TheFolds.{fold-roll-Expr}
+use Rattle.cx_tree.specs.Trees.{ExprTree, ArgumentTree, CoreTree, TypeTree, expr_layer, argument_layer, core_layer, type_layer, expr_tree}
 use Rattle.cx_tree.specs.UnitTree.{FunctionTree, function_tree}
 use Rattle.cx_engine.specs.Forms.{Mention}
-use Rattle.cx_engine.specs.Names.{Declared, declared, declaration_of, is_known, names_called, names_function, names_functions}
+use Rattle.cx_engine.specs.Names.{Declared, declared, declaration_of, is_known, calls_in, names_called, names_function, names_functions}
 
 abbrev pub trees : List Function → List FunctionTree
 trees fs = map function_tree fs
@@ -58,3 +64,8 @@ unfolding names_functions
 ends fs i names above h =
     let none : names_functions names (trees (drop i fs)) ≡ Ok tt = rw (drop_all i fs above) refl in
     (sym h.rest ∙ none, h.so_far ∙ ap (λ (gs : List Function). map declared (trees gs)) (take_all i fs above))
+
+-- the calls of a binary expression are those of its operands, the left one's first
+pub binary_calls : (n : NodeId) (at : Place) (operator : BinaryOperator) (left : _) (right : _) → calls_in (expr_tree (expr.Binary n at operator left right)) ≡ calls_in (expr_tree left.value) ++ calls_in (expr_tree right.value)
+binary_calls n at operator left right =
+    ap (λ e. calls_in (expr_tree e)) (sym (expr.rolls-Binary n at operator left right)) ∙ ap calls_in (fold-roll-Expr ExprTree ArgumentTree CoreTree TypeTree expr_layer argument_layer core_layer type_layer _)

@@ -1,6 +1,6 @@
 -- Which forms of expressions are built: literals of type int, calls of a name without arguments, parentheses, the
 -- unary operators + - ~ and the binary operators + - * / % & ^ |. The stage of forms refuses every other one.
-use Rattle.std.specs.Prelude.{ℕ, Bool, true, false, List, [], ◌∷◌, Option, Some, None, is_some, nat_le, Result, Ok, Err, if◌then◌else◌}
+use Rattle.std.specs.Prelude.{◌≡◌, ◌<◌, slice_get, ℕ, Bool, true, false, List, [], ◌∷◌, Option, Some, None, is_some, nat_le, Result, Ok, Err, if◌then◌else◌}
 use Rattle.cx_base.specs.Refusal.{Refusal, Refused}
 use Rattle.cx_base.specs.declared.fault.Fault.{Fault}
 use Rattle.cx_base.specs.declared.kind.Kind.TheVariants as fault
@@ -74,6 +74,14 @@ unbuilt_function f = first_of (unbuilt_type f.type) (unbuilt_in f.value)
 abbrev pub first_unbuilt : UnitTree → Option Place
 first_unbuilt [] = None
 first_unbuilt (f ∷ fs) = first_of (unbuilt_function f) (first_unbuilt fs)
+
+-- The first function that has a form that is not built has its first one here.
+pub record IsFirstUnbuilt (u : UnitTree) (at : Place) : Type 0 where
+  pub number : ℕ
+  pub function : FunctionTree
+  pub there : slice_get u number ≡ Some function
+  pub has : unbuilt_function function ≡ Some at
+  pub before : (j : ℕ) (f : FunctionTree) → j < number → slice_get u j ≡ Some f → unbuilt_function f ≡ None
 
 -- A form that is not built.
 abbrev pub unsupported : Place → Fault

@@ -1,12 +1,25 @@
-//! What the stage of names finds, said without its order of work.
+//! What the stages of forms and of names find, said without their order of work.
 
-ghost use Rattle.std.specs.Prelude.{◌≡◌, ◌⊎◌, ℕ, Ok, Err};
+ghost use Rattle.std.specs.Prelude.{◌≡◌, ◌⊎◌, ℕ, Some, None, Ok, Err, slice_get};
 ghost use Rattle.cx_base.specs.Refusal.{Refusal, Refused};
 ghost use Rattle.cx_base.specs.declared.fault.Fault.{Fault};
 ghost use Rattle.cx_base.specs.declared.kind.Kind.TheVariants.{Redeclared, UnknownName};
-ghost use Rattle.cx_tree.specs.UnitTree.{UnitTree};
+ghost use Rattle.cx_base.specs.declared.place.Place.{Place};
+ghost use Rattle.cx_tree.specs.UnitTree.{FunctionTree, UnitTree};
+ghost use Rattle.cx_engine.specs.Forms.{unbuilt_function, IsFirstUnbuilt, unsupported, forms_unit};
 ghost use Rattle.cx_engine.specs.Names.{names_unit};
 ghost use Rattle.cx_engine.specs.WellNamed.{IsWellNamed, Redeclares, CallsUnknown};
+
+/// The laws of the forms of a unit. It does nothing.
+pub fn forms_of_a_unit()
+    // A unit passes exactly where each of its functions has built forms alone.
+    ensures fine { (u : UnitTree) → forms_unit u ≡ Ok tt → (k : ℕ) (f : FunctionTree) → slice_get u k ≡ Some f → unbuilt_function f ≡ None }
+    ensures only { (u : UnitTree) → ((k : ℕ) (f : FunctionTree) → slice_get u k ≡ Some f → unbuilt_function f ≡ None) → forms_unit u ≡ Ok tt }
+
+    // Else it has one fault, at the first node that is not built.
+    ensures first { (u : UnitTree) (r : Refusal) → forms_unit u ≡ Err r
+        → (at : Place) × (r ≡ Refused (unsupported at)) × IsFirstUnbuilt u at }
+{}
 
 /// The laws of the names of a unit. It does nothing.
 pub fn names_of_a_unit()

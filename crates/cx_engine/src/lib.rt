@@ -8,7 +8,7 @@ mod names;
 mod resolution;
 mod translation;
 
-pub use laws::names_of_a_unit;
+pub use laws::{forms_of_a_unit, names_of_a_unit};
 pub use translation::{Translation, translate_unit};
 
 #[cfg(test)]

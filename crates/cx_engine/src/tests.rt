@@ -329,5 +329,6 @@ fn forms_before_names(rt: HostRuntime) -> Result<(), Fail> {
 
 #[test]
 fn the_laws_may_be_cited(_rt: HostRuntime) {
+    forms_of_a_unit();
     names_of_a_unit();
 }
