@@ -1,0 +1,10 @@
+pub mod Pieces
+pub mod Production
+pub mod Names
+pub mod Words
+pub mod Types
+pub mod Expressions
+pub mod Statements
+pub mod Declarations
+pub mod Laws
+pub mod Printed

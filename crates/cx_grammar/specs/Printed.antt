@@ -1,0 +1,95 @@
+-- The grammar as it is printed. Some productions above are factored, so that the next token tells what to read; here
+-- they stand with their alternatives and repetitions as the text of the grammar has them, with no reader.
+use Rattle.std.specs.Prelude.{◌≡◌, ◌⊎◌, ◌↔◌, ℕ, zero, suc, ◌+◌, Bool, false, ◌||◌, List, [], ◌∷◌, ◌++◌, codes}
+use Rattle.cx_tree.specs.Trees.{ExprTree, BinaryTree}
+use Rattle.cx_tree.specs.declared.operators.BinaryOperator.{BinaryOperator}
+use Rattle.cx_grammar.specs.Pieces.{Piece}
+use Rattle.cx_grammar.specs.Production.{Production, give, closed, begins}
+use Rattle.cx_grammar.specs.Words.{punct}
+use Rattle.cx_grammar.specs.Names.{Context, deeper}
+use Rattle.cx_grammar.specs.Types.{Numbered, Below}
+use Rattle.cx_grammar.specs.Expressions.{levels, marked, operator, operand, is_assignment, conditional, assignment}
+
+-- Trees and beginnings, as those of a production. The tokens behind a tree are told.
+pub record Relation (A : Type 0) : Type 1 where
+  pub whole : ℕ → List Piece → List Piece → A → Type 0
+  pub front : ℕ → List Piece → Type 0
+
+abbrev pub trees_of : {A : Type 0} → Production A → Relation A
+trees_of p = record { whole = p.whole; front = p.front }
+
+-- One, then another.
+infixl 10 ◌>>=◌
+abbrev pub ◌>>=◌ : {A B : Type 0} → Relation A → (A → Relation B) → Relation B
+p >>= f = record {
+  whole = λ limit ts behind y. (x : _) × (us vs : List Piece) × (ts ≡ us ++ vs) × p.whole limit us (vs ++ behind) x × (f x).whole limit vs behind y;
+  front = λ limit ts. p.front limit ts ⊎ ((x : _) × (us vs : List Piece) × (ts ≡ us ++ vs) × p.whole limit us vs x × (f x).front limit vs);
+}
+
+-- One or the other.
+abbrev pub or : {A : Type 0} → Relation A → Relation A → Relation A
+or p q = record {
+  whole = λ limit ts behind x. p.whole limit ts behind x ⊎ q.whole limit ts behind x;
+  front = λ limit ts. p.front limit ts ⊎ q.front limit ts;
+}
+
+-- One, or no token and a value.
+abbrev pub optional : {A : Type 0} → Relation A → A → Relation A
+optional p x = or p (trees_of (give x))
+
+-- A production is what is printed: they have the same trees with the same values, where no token of some kind stands
+-- behind them, and the same beginnings.
+pub record IsAsPrinted {A : Type 0} (p : Production A) (goes_on : Piece → Bool) (q : Relation A) : Type 0 where
+  pub same_trees : (limit : ℕ) (ts behind : List Piece) (x : A) → begins goes_on behind ≡ false → p.whole limit ts behind x ↔ q.whole limit ts behind x
+  pub same_beginnings : (limit : ℕ) (ts : List Piece) → p.front limit ts ↔ q.front limit ts
+
+-- ---- expr = lor [ "?" expr ":" expr ] | lor assign expr
+
+abbrev pub lor : Below → Context → ℕ → Production (Numbered ExprTree)
+lor b c n = operand b 10 c n
+
+-- what goes on behind an expression
+abbrev pub behind_lor : Context → Piece → Bool
+behind_lor c t = punct (codes "?") t || is_assignment c.angle t
+
+unfoldable pub printed_expr : Below → Context → ℕ → Relation (Numbered ExprTree)
+printed_expr b c n = or
+    (do
+      left ← trees_of (lor b c n)
+      optional (trees_of (conditional b c left)) left)
+    (do
+      left ← trees_of (lor b c n)
+      trees_of (assignment b c left))
+
+-- ---- binary operators of a level: operand { operator operand }, grouped from the left
+
+-- an operator and its right operand
+abbrev pub Joined : Type 0
+Joined = BinaryOperator × Numbered ExprTree
+
+-- the node of an operator is behind its right operand
+abbrev pub grouped : Numbered ExprTree → List Joined → Numbered ExprTree
+grouped left [] = left
+grouped left ((o, right) ∷ more) = grouped (BinaryTree (marked right.1 left.0) o left.0 right.0, right.1 + 1) more
+
+-- None or more operators of a level with their operands, each one construct deeper, nested so many levels deep at most.
+unfoldable pub joined : ℕ → ℕ → Context → ℕ → Relation (List Joined)
+joined zero level c n = optional
+    (do
+      o ← trees_of (operator level c)
+      trees_of closed)
+    []
+joined (suc depth) level c n = optional
+    (do
+      o ← trees_of (operator level c)
+      right ← trees_of (operand (levels depth) level (deeper c) n)
+      more ← joined depth level (deeper c) (right.1 + 1)
+      trees_of (give ((o, right) ∷ more)))
+    []
+
+-- An expression of the operators up to a level.
+unfoldable pub printed_operand : ℕ → ℕ → Context → ℕ → Relation (Numbered ExprTree)
+printed_operand depth level c n = do
+  left ← trees_of (operand (levels depth) level c n)
+  more ← joined depth level c left.1
+  trees_of (give (grouped left more))

@@ -1,0 +1,18 @@
+//! The grammar as it is printed: productions that are factored have the trees and beginnings of the text of the grammar.
+//! Each law is the contract of a function that does nothing.
+
+ghost use Rattle.std.specs.Prelude.{◌≡◌, ℕ, suc};
+ghost use Rattle.cx_grammar.specs.Names.{Context};
+ghost use Rattle.cx_grammar.specs.Expressions.{expr, operand, levels, is_operator};
+ghost use Rattle.cx_grammar.specs.Printed.{IsAsPrinted, behind_lor, printed_expr, printed_operand};
+
+/// Conditional expressions and assignments ([expr.cond], [expr.ass]).
+pub fn expressions_as_printed()
+    ensures printed { (c : Context) (n depth : ℕ) → IsAsPrinted (expr (levels depth) c n) (behind_lor c) (printed_expr (levels depth) c n) }
+{}
+
+/// Binary operators ([expr.mul] to [expr.log.or]): an operand, then operators of a level with operands of the tighter
+/// levels, grouped from the left.
+pub fn operands_as_printed()
+    ensures printed { (c : Context) (n level depth : ℕ) → IsAsPrinted (operand (levels depth) (suc level) c n) (is_operator level c.angle) (printed_operand depth level c n) }
+{}
