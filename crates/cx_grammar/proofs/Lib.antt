@@ -24,3 +24,4 @@ pub mod NumberLaws
 pub mod Printed
 pub mod PrintedExpressions
 pub mod PrintedOperands
+pub mod PrintedPostfix

@@ -1,5 +1,5 @@
 -- Productions that are factored, and what they are factored from.
-use Rattle.std.proofs.Common.{◌≡◌, ◌⊎◌, inl, inr, ℕ, Bool, true, false, ◌||◌, List, [], ◌∷◌, ◌++◌, refl, sym, ap, ◌∙◌, subst, append_assoc, true≢false}
+use Rattle.std.proofs.Common.{◌≡◌, ◌⊎◌, inl, inr, ℕ, Bool, true, false, ◌||◌, List, [], ◌∷◌, ◌++◌, refl, sym, ap, ◌∙◌, subst, append_assoc, append-nil, true≢false}
 use Rattle.cx_grammar.specs.Pieces.{Piece}
 use Rattle.cx_grammar.specs.Production.{Production, ◌>>=◌, token, when, begins, Chosen}
 
@@ -131,3 +131,9 @@ neither q r (t ∷ ts) e = go (q t) e
     go : (c : Bool) → (c || r t) ≡ false → (c ≡ false) × (r t ≡ false)
     go true e = absurd (true≢false e)
     go false e = (refl, e)
+
+-- a tree that is all that is left
+pub whole_last : {A : Type 0} (p : Production A) (l : ℕ) (vs us2 vs2 behind : List Piece) (y : A) → vs ≡ us2 ++ vs2 → vs2 ≡ [] → p.whole l us2 (vs2 ++ behind) y → p.whole l vs behind y
+whole_last p l vs us2 vs2 behind y e d w =
+    let all : us2 ≡ vs = sym (e ∙ ap (λ (s : List Piece). us2 ++ s) d ∙ append-nil us2) in
+    subst (λ (s : List Piece). p.whole l s behind y) all (subst (λ (s : List Piece). p.whole l us2 (s ++ behind) y) d w)

@@ -1,14 +1,15 @@
 -- The grammar as it is printed. Some productions above are factored, so that the next token tells what to read; here
 -- they stand with their alternatives and repetitions as the text of the grammar has them, with no reader.
 use Rattle.std.specs.Prelude.{◌≡◌, ◌⊎◌, ◌↔◌, ℕ, zero, suc, ◌+◌, Bool, false, ◌||◌, List, [], ◌∷◌, ◌++◌, codes}
-use Rattle.cx_tree.specs.Trees.{ExprTree, BinaryTree}
+use Rattle.cx_tree.specs.Trees.{ExprTree, BinaryTree, MemberTree, CallTree, PostfixTree, exprs}
 use Rattle.cx_tree.specs.declared.operators.BinaryOperator.{BinaryOperator}
+use Rattle.cx_tree.specs.declared.operators.PostfixOperator.{PostfixOperator}
 use Rattle.cx_grammar.specs.Pieces.{Piece}
-use Rattle.cx_grammar.specs.Production.{Production, give, closed, begins}
-use Rattle.cx_grammar.specs.Words.{punct}
-use Rattle.cx_grammar.specs.Names.{Context, deeper}
-use Rattle.cx_grammar.specs.Types.{Numbered, Below}
-use Rattle.cx_grammar.specs.Expressions.{levels, marked, operator, operand, is_assignment, conditional, assignment}
+use Rattle.cx_grammar.specs.Production.{Production, give, token, closed, begins}
+use Rattle.cx_grammar.specs.Words.{punct, any_name}
+use Rattle.cx_grammar.specs.Names.{Context, deeper, inside}
+use Rattle.cx_grammar.specs.Types.{Numbered, Calling, NoCall, MayCall, MustCall, Below}
+use Rattle.cx_grammar.specs.Expressions.{levels, marked, exprs_until, primary, is_step, postfix_operator, operator, operand, is_assignment, conditional, assignment}
 
 -- Trees and beginnings, as those of a production. The tokens behind a tree are told.
 pub record Relation (A : Type 0) : Type 1 where
@@ -93,3 +94,72 @@ printed_operand depth level c n = do
   left ← trees_of (operand (levels depth) level c n)
   more ← joined depth level c left.1
   trees_of (give (grouped left more))
+
+-- ---- postfix = primary { "." Name | "(" [ args ] ")" | "++" | "--" }
+
+-- What stands behind a primary: a member, a call's arguments with the number of the next node, a step.
+pub data Suffix : Type 0 where
+  Dot : (name : List ℕ) → Suffix
+  Arguments : Numbered (List ExprTree) → Suffix
+  Step : PostfixOperator → Suffix
+
+abbrev pub applied : Numbered ExprTree → Suffix → Numbered ExprTree
+applied e (Dot name) = (MemberTree (marked e.1 e.0) e.0 name, e.1 + 1)
+applied e (Arguments es) = (CallTree (marked es.1 e.0) e.0 (exprs es.0), es.1 + 1)
+applied e (Step o) = (PostfixTree (marked e.1 e.0) o e.0, e.1 + 1)
+
+abbrev pub applied_all : Numbered ExprTree → List Suffix → Numbered ExprTree
+applied_all e [] = e
+applied_all e (s ∷ more) = applied_all (applied e s) more
+
+-- what stands behind a suffix
+abbrev pub Behind : Type 1
+Behind = Calling → Context → ℕ → Relation (List Suffix)
+
+abbrev pub dotted : Behind → Context → ℕ → Relation (List Suffix)
+dotted behind c n = do
+  dot ← trees_of (token c.load (punct (codes ".")))
+  name ← trees_of (token (c.load + 1) any_name)
+  more ← behind MayCall (deeper c) (n + 1)
+  trees_of (give (Dot name.token.text ∷ more))
+
+abbrev pub stepped : Behind → Context → ℕ → Relation (List Suffix)
+stepped behind c n = do
+  t ← trees_of (token c.load is_step)
+  more ← behind NoCall (deeper c) (n + 1)
+  trees_of (give (Step (postfix_operator t) ∷ more))
+
+-- the arguments are nested so many levels deep at most
+abbrev pub called_with : ℕ → Behind → Context → ℕ → Relation (List Suffix)
+called_with zero behind c n = do
+  open_round ← trees_of (token (c.load + 1) (punct (codes "(")))
+  trees_of closed
+called_with (suc depth) behind c n = do
+  open_round ← trees_of (token (c.load + 1) (punct (codes "(")))
+  es ← trees_of (exprs_until (codes ")") (levels depth) (inside (deeper c)) n)
+  close_round ← trees_of (token ((deeper c).load + 1) (punct (codes ")")))
+  more ← behind NoCall (deeper c) (es.1 + 1)
+  trees_of (give (Arguments es ∷ more))
+
+-- A call stands only where one may; where one must stand, nothing else does.
+abbrev pub allowed : Calling → (call others : Relation (List Suffix)) → Relation (List Suffix)
+allowed NoCall call others = optional others []
+allowed MayCall call others = or call (optional others [])
+allowed MustCall call others = call
+
+-- None or more suffixes, each one construct deeper, nested so many levels deep at most.
+unfoldable pub suffixes : ℕ → Behind
+suffixes zero calling c n =
+    allowed calling (called_with zero (λ calling c n. trees_of closed) c n) (or (dotted (λ calling c n. trees_of closed) c n) (stepped (λ calling c n. trees_of closed) c n))
+suffixes (suc depth) calling c n =
+    allowed calling (called_with (suc depth) (suffixes depth) c n) (or (dotted (suffixes depth) c n) (stepped (suffixes depth) c n))
+
+unfoldable pub printed_postfix : ℕ → Context → ℕ → Relation (Numbered ExprTree)
+printed_postfix depth c n = do
+  p ← trees_of (primary (levels depth) c n)
+  more ← suffixes depth p.1 c p.0.1
+  trees_of (give (applied_all p.0 more))
+
+-- what goes on behind a postfix expression
+abbrev pub behind_postfix : Piece → Bool
+behind_postfix t = punct (codes "(") t || (punct (codes ".") t || is_step t)

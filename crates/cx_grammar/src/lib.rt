@@ -8,4 +8,4 @@ pub use laws::{
     laws_of_clauses, laws_of_declarations, laws_of_expressions, laws_of_statements, laws_of_types,
     laws_of_units, numbers_of_clauses, numbers_of_expressions, numbers_of_types,
 };
-pub use text::{expressions_as_printed, operands_as_printed};
+pub use text::{expressions_as_printed, operands_as_printed, postfixes_as_printed};
