@@ -61,7 +61,7 @@ whole_over hp l l' us rest x h w = whole_wider hp l l' us rest x h (hp.complete 
 
 -- ---- the first pieces of a beginning
 
-front_first : {A : Type 0} (p : Production A) → Lawful p → (l : ℕ) (us vs : List Piece) → p.front l (us ++ vs) → p.front l us
+pub front_first : {A : Type 0} (p : Production A) → Lawful p → (l : ℕ) (us vs : List Piece) → p.front l (us ++ vs) → p.front l us
 front_first {A} p hp l us vs k = go (p.read l us) refl
   where
     end : Finished (p.read l (us ++ vs))
