@@ -1,0 +1,5 @@
+pub mod Repeats
+pub mod Takes
+pub mod WordList
+pub mod Rest
+pub mod Sound

@@ -1,0 +1,4 @@
+pub mod Classes
+pub mod Ends
+pub mod Spots
+pub mod Views
