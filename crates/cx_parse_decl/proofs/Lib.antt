@@ -1,13 +1,2 @@
-pub mod Words
-pub mod Rest
-pub mod Ints
-pub mod Loop
-pub mod Steps
-pub mod Wanted
-pub mod Ended
-pub mod Found
-pub mod Again
-pub mod Refused
-pub mod Readers
-pub mod Misfit
-pub mod Bounds
+pub mod Units
+pub mod Numbers

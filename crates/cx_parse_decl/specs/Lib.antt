@@ -1,4 +1,2 @@
-pub mod Fault
-pub mod Grammar
-pub mod Rest
-pub mod Spelling
+pub mod Functions
+pub mod Units
