@@ -1,2 +1,5 @@
 pub mod Units
 pub mod Numbers
+pub mod Endless
+pub mod EndlessTypes
+pub mod EndlessExpressions
