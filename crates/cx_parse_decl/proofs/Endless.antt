@@ -153,7 +153,7 @@ or_false : (a b : Bool) → a ≡ false → b ≡ false → (a || b) ≡ false
 or_false true b e f = e
 or_false false b e f = f
 
-last_parts : (us vs : List Piece) → has_last us ≡ false → has_last vs ≡ false → has_last (us ++ vs) ≡ false
+pub last_parts : (us vs : List Piece) → has_last us ≡ false → has_last vs ≡ false → has_last (us ++ vs) ≡ false
 last_parts [] vs e f = f
 last_parts (u ∷ us) vs e f = go (is_last u) (has_last us) (last_parts us vs) e
   where

@@ -3,3 +3,5 @@ pub mod Numbers
 pub mod Endless
 pub mod EndlessTypes
 pub mod EndlessExpressions
+pub mod Ends
+pub mod Readings

@@ -55,7 +55,7 @@ module _ {b d : Below} (h : BelowGrows b d) where
   more_function-Steps : (c : Context) (so_far : Named UnitTree) → Steps (more_function b c so_far) (more_function d c so_far)
   more_function-Steps c so_far = filled-Steps (more_function-Grows c so_far) (more_function-Filled b c so_far) (more_function-Filled d c so_far)
 
-  unit-Grows : Grows (unit b) (unit d)
+  pub unit-Grows : Grows (unit b) (unit d)
   unfolding unit
   unit-Grows = search (growing, turns-Grows, more_function-Steps) depth 6
 
