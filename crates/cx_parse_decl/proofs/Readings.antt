@@ -4,7 +4,7 @@ use Rattle.cx_base.specs.Refusal.{Refusal}
 use Rattle.cx_lexer.specs.Division.{EndsOnce, AreSpelled}
 use Rattle.cx_lexer.specs.Tokens.{TokenTree}
 use Rattle.cx_tree.specs.UnitTree.{UnitTree}
-use Rattle.cx_grammar.specs.Pieces.{Piece, pieces}
+use Rattle.cx_grammar.specs.Pieces.{Piece, halves, pieces}
 use Rattle.cx_grammar.specs.Production.{Production, Stopped, At, Ended, give, ◌>>=◌, token, repeat}
 use Rattle.cx_grammar.specs.Words.{word}
 use Rattle.cx_grammar.specs.Names.{Context}
@@ -181,3 +181,14 @@ stops_by ts r m c e (Short d k none) =
 pub unit_stops : (ts : List TokenTree) (r : Refusal) → EndsOnce ts → AreSpelled ts → unit_at ts ≡ Err r → IsMisfit ts r ⊎ IsTooDeep ts r
 unfolding unit_at
 unit_stops ts r once spelled e = stops_by ts r ((units depth).read load_limit (pieces ts)) (pieces_close ts once spelled) e (read_answers ts)
+
+pieces-append : (ts us : List TokenTree) → pieces (ts ++ us) ≡ pieces ts ++ pieces us
+pieces-append [] us = refl
+pieces-append (t ∷ ts) us = ap (λ (z : List Piece). halves t ++ z) (pieces-append ts us) ∙ sym (append_assoc (halves t) (pieces ts) (pieces us))
+
+-- tokens of which one does not fit are no unit
+pub no_unit : (ts : List TokenTree) (r : Refusal) (u : UnitTree) → IsMisfit ts r → IsTree units (pieces ts) u → ⊥
+no_unit ts r u m t = m.misfit (unit_laws.first_begin (pieces (m.front ++ m.token ∷ [])) (pieces m.behind) (subst (λ (z : List Piece). Begins units z) parted (unit_laws.trees_begin (pieces ts) u t)))
+  where
+    parted : pieces ts ≡ pieces (m.front ++ m.token ∷ []) ++ pieces m.behind
+    parted = ap (λ (z : List TokenTree). pieces z) (m.parts ∙ sym (append_assoc m.front (m.token ∷ []) m.behind)) ∙ pieces-append (m.front ++ m.token ∷ []) m.behind

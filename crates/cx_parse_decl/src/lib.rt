@@ -1,6 +1,9 @@
 //! From the tokens of a unit to its tree, or the place where they cease to be one.
 #![tactic(auto)]
 
+mod functions;
 mod laws;
 
-pub use laws::laws_of_functions;
+
+pub use laws::{laws_of_functions, one_unit};
+
