@@ -5,3 +5,4 @@ pub mod EndlessTypes
 pub mod EndlessExpressions
 pub mod Ends
 pub mod Readings
+pub mod Parsing

@@ -80,7 +80,7 @@ fn body<'t, 's>(
 
 /// A function. Its name is declared, and known in its body.
 #[tactic(auto, unfolding(crate::specs::Functions::function))]
-fn function<'t, 's>(
+pub(crate) fn function<'t, 's>(
     alloc: Global,
     scope: &mut Scope<'s>,
     spot: Spot<'t, 's>,

@@ -3,7 +3,7 @@
 
 mod functions;
 mod laws;
-
+mod unit;
 
 pub use laws::{laws_of_functions, one_unit};
-
+pub use unit::parse_unit;
