@@ -11,7 +11,7 @@ ghost use Rattle.cx_grammar.specs.Expressions.{levels};
 ghost use Rattle.cx_grammar.specs.Production.{Gives, begins, repeat};
 ghost use Rattle.cx_spots.specs.Spots.{Lightens, weight, left_at};
 ghost use Rattle.cx_parse_decl.specs.Functions.{more_function, outermost};
-ghost use Rattle.cx_parse_decl.specs.Units.{depth, unit_at};
+ghost use Rattle.cx_parse_decl.specs.Units.{depth, IsUnit, unit_at};
 ghost use Rattle.cx_parse_decl.specs.Views.{AtEnd};
 
 use crate::functions::function;
@@ -89,6 +89,7 @@ pub fn parse_unit<'s>(alloc: Global, tokens: &[Token<'s>]) -> Result<Unit<'s>, S
     requires spelled { AreSpelled (map token_tree tokens.now) }
     requires room { 16 * length tokens.now < 2 ^ 32 }
     ensures exact { refusals.Gives unit_tree result (unit_at (map token_tree tokens.now)) }
+    ensures spelled { IfOk result (λ u. IsUnit (map token_tree tokens.now) (unit_tree u)) }
     ensures bounded { IfOk result (λ u. length (unit_tree u) < 2 ^ 32) }
 {
     let mut scope = Scope::new(alloc);

@@ -9,6 +9,7 @@ use Rattle.cx_spots.specs.Spots.{left_at}
 use Rattle.cx_parse_decl.proofs.Ends.{tokens_end}
 use Rattle.cx_parse_decl.proofs.Numbers.{length-pieces}
 use Rattle.cx_parse_decl.proofs.Parsing.{unit_read, unit_stopped}
+use Rattle.cx_parse_decl.proofs.Readings.{unit_found}
 use Rattle.cx_parse_decl.proofs.unit.parse_unit.Goals as goal
 
 pub before-requires : goal.before-requires
@@ -27,9 +28,15 @@ returns-in_err-functions-clause-exact c =
     rw (p.1, p.2) (unit_stopped (map token_tree c.args.tokens.now) c.before-2.result.next c.enter.new.self (left_at c.before-2.result) c.in_err-functions.field-0.0
     c.before-2.ensures.next (c.in_ok-enter.ensures.ok ∙ ap (λ (z : Frames). entered z) c.new-scope.ensures) c.before-2.ensures.left c.in_err-functions.ensures.exact)
 
-pub returns-clause-exact : goal.returns-clause-exact
-returns-clause-exact c = unit_read (map token_tree c.args.tokens.now) c.before-2.result.next c.enter.new.self (left_at c.before-2.result) (map function_tree c.in_ok-functions.functions.items, c.in_ok-functions.field-0-1.next, c.functions.new.scope) (left_at c.in_ok-functions.field-0-1)
+read : goal.returns-clause-exact
+read c = unit_read (map token_tree c.args.tokens.now) c.before-2.result.next c.enter.new.self (left_at c.before-2.result) (map function_tree c.in_ok-functions.functions.items, c.in_ok-functions.field-0-1.next, c.functions.new.scope) (left_at c.in_ok-functions.field-0-1)
     c.before-2.ensures.next (c.in_ok-enter.ensures.ok ∙ ap (λ (z : Frames). entered z) c.new-scope.ensures) c.before-2.ensures.left c.in_ok-functions.ensures.exact c.in_ok-functions.ensures.here
+
+pub returns-clause-exact : goal.returns-clause-exact
+returns-clause-exact c = read c
+
+pub returns-clause-spelled : goal.returns-clause-spelled
+returns-clause-spelled c = unit_found (map token_tree c.args.tokens.now) (map function_tree c.in_ok-functions.functions.items) c.requires.ended c.requires.spelled (read c)
 
 pub returns-clause-bounded : goal.returns-clause-bounded
 returns-clause-bounded c =
