@@ -17,7 +17,7 @@ use Rattle.conceptc.specs.declared.decision.Decision.TheVariants as decision
 use Rattle.conceptc.specs.declared.status.Status.{Status}
 use Rattle.conceptc.specs.declared.status.Status.TheVariants as status
 use Rattle.conceptc.specs.Answers.{IsLimit, IsWriteFault, IsUnlessFaulty, IsComplete}
-use Rattle.conceptc.specs.Decision.{IsCause, IsCauseOf, IsWholeCause, IsTooMuch, IsJudged, Says, status_of, out_text, diag_text, witness_text}
+use Rattle.conceptc.specs.Decision.{IsTooDeepText, IsCause, IsCauseOf, IsWholeCause, IsTooMuch, IsJudged, Says, status_of, out_text, diag_text, witness_text}
 use Rattle.conceptc.specs.Reading.{ReadsWhole, ReadsTooMuch}
 use Rattle.conceptc.specs.Report.{limit_report}
 use Rattle.conceptc.specs.Verdict.{source_limit, no_place, judged, verdict}
@@ -93,28 +93,44 @@ module _ (d : Decision) (st : Status) (rest0 rest1 : Option (List ℕ)) (i0 i1 :
   is_write_fault command cause (inl h) e = absurd (not_write_fault d (sym h.0 ∙ e))
   is_write_fault command cause (inr h) e = (h.1, d, cause, h.2, h.3)
 
--- a limit that was said is that on the bytes
-limit_cause : (l : Limit) (at : Place) (rest0 rest1 : Option (List ℕ)) → ((bytes : List ℕ) (l : Limit) (at : Place) → judged bytes ≡ Err (Passed l at) → ⊥)
-    → IsWholeCause (decision.Passed l at) rest0 rest1 ⊎ IsTooMuch (decision.Passed l at) rest0 rest1 → IsTooMuch (decision.Passed l at) rest0 rest1
-limit_cause l at rest0 rest1 limits (inl h) = absurd (limits h.0 l at (sym (within h.0 h.1.2) ∙ h.2))
-limit_cause l at rest0 rest1 limits (inr h) = h
+-- what limits the stages pass
+abbrev pub PassDepth : Type 0
+PassDepth = (bytes : List ℕ) (l : Limit) (at : Place) → judged bytes ≡ Err (Passed l at) → (l ≡ limit.Depth) × IsTooDeepText bytes at
 
-said_limit : (d : Decision) (rest0 rest1 : Option (List ℕ)) (i0 i1 : ℕ) (out0 out1 diag0 diag1 : Option (List ℕ)) → ((bytes : List ℕ) (l : Limit) (at : Place) → judged bytes ≡ Err (Passed l at) → ⊥)
+-- a limit that was said is that on the bytes, or that on the depth
+limit_cause : (l : Limit) (at : Place) (rest0 rest1 out0 out1 diag0 diag1 : Option (List ℕ)) → PassDepth → IsWholeCause (decision.Passed l at) rest0 rest1 ⊎ IsTooMuch (decision.Passed l at) rest0 rest1
+    → out1 ≡ out0 → Appends diag0 diag1 (limit_report l at) → IsLimit (Some Translate) rest0 rest1 out0 out1 diag0 diag1
+limit_cause l at rest0 rest1 out0 out1 diag0 diag1 limits (inl h) put said =
+    let d = limits h.0 l at (sym (within h.0 h.1.2) ∙ h.2) in
+    (
+      refl,
+      put,
+      inr (
+        h.0,
+        at,
+        h.1,
+        d.1,
+        subst (λ (z : Limit). verdict h.0 ≡ Err (Passed z at)) d.0 h.2,
+        subst (λ (z : Limit). Appends diag0 diag1 (limit_report z at)) d.0 said,
+      ),
+    )
+limit_cause l at rest0 rest1 out0 out1 diag0 diag1 limits (inr h) put said =
+    let is_source : l ≡ limit.Source = cc (h.0) in
+    let is_nowhere : at ≡ no_place = cc (h.0) in
+    let report : limit_report l at ≡ limit_report limit.Source no_place = rw (is_source, is_nowhere) refl in
+    (refl, put, inl (h.1, subst (λ (t : List ℕ). Appends diag0 diag1 t) report said))
+
+said_limit : (d : Decision) (rest0 rest1 : Option (List ℕ)) (i0 i1 : ℕ) (out0 out1 diag0 diag1 : Option (List ℕ)) → PassDepth
     → IsCauseOf d rest0 rest1 i0 i1 → status_of d ≡ status.Limit → Appends out0 out1 (out_text d) → Appends diag0 diag1 (diag_text d) → IsLimit (Some Translate) rest0 rest1 out0 out1 diag0 diag1
 said_limit decision.NoCommand rest0 rest1 i0 i1 out0 out1 diag0 diag1 limits cause e put said = absurd cc
 said_limit (decision.Translated text) rest0 rest1 i0 i1 out0 out1 diag0 diag1 limits cause e put said = absurd cc
 said_limit (decision.Refused fault) rest0 rest1 i0 i1 out0 out1 diag0 diag1 limits cause e put said = absurd cc
-said_limit (decision.Passed l at) rest0 rest1 i0 i1 out0 out1 diag0 diag1 limits cause e put said =
-    let h = limit_cause l at rest0 rest1 limits cause in
-    let is_source : l ≡ limit.Source = cc (h.0) in
-    let is_nowhere : at ≡ no_place = cc (h.0) in
-    let report : limit_report l at ≡ limit_report limit.Source no_place = rw (is_source, is_nowhere) refl in
-    (refl, h.1, nothing_put out0 out1 put, subst (λ (t : List ℕ). Appends diag0 diag1 t) report said)
+said_limit (decision.Passed l at) rest0 rest1 i0 i1 out0 out1 diag0 diag1 limits cause e put said = limit_cause l at rest0 rest1 out0 out1 diag0 diag1 limits cause (nothing_put out0 out1 put) said
 said_limit decision.Unread rest0 rest1 i0 i1 out0 out1 diag0 diag1 limits cause e put said = absurd cc
 said_limit decision.OutOfMemory rest0 rest1 i0 i1 out0 out1 diag0 diag1 limits cause e put said = absurd cc
 
 pub is_limit : (d : Decision) (st : Status) (command : Option Command) (rest0 rest1 : Option (List ℕ)) (i0 i1 : ℕ) (out0 out1 : Option (List ℕ)) (o0 o1 : ℕ) (diag0 diag1 : Option (List ℕ)) (d0 d1 : ℕ)
-    → ((bytes : List ℕ) (l : Limit) (at : Place) → judged bytes ≡ Err (Passed l at) → ⊥) → IsCause d command rest0 rest1 i0 i1 → Says d st out0 out1 o0 o1 diag0 diag1 d0 d1 → st ≡ status.Limit
+    → PassDepth → IsCause d command rest0 rest1 i0 i1 → Says d st out0 out1 o0 o1 diag0 diag1 d0 d1 → st ≡ status.Limit
     → IsLimit command rest0 rest1 out0 out1 diag0 diag1
 is_limit d st None rest0 rest1 i0 i1 out0 out1 o0 o1 diag0 diag1 d0 d1 limits cause (inl h) e =
     let usage : status_of d ≡ status.Usage = ap status_of cause.0 in
@@ -151,6 +167,23 @@ pub ill_formed_exactly : (d : Decision) (st : Status) (command : Option Command)
 ill_formed_exactly d st command rest0 rest1 i0 i1 out0 out1 o0 o1 diag0 diag1 d0 d1 cause (inl h) asked bytes fault told is =
     ill_formed_status d st (verdict bytes) fault (decides d rest0 rest1 i0 i1 bytes told (under d command rest0 rest1 i0 i1 asked cause)) is h.0
 ill_formed_exactly d st command rest0 rest1 i0 i1 out0 out1 o0 o1 diag0 diag1 d0 d1 cause (inr h) asked bytes fault told is = inr (inr (inl h.0))
+
+limit_status : (d : Decision) (st : Status) (meant : Result PlainTree Refusal) (l : Limit) (at : Place) → Decides d meant → meant ≡ Err (Passed l at) → st ≡ status_of d → IsUnlessFaulty status.Limit st
+limit_status decision.NoCommand st meant l at h e is = absurd h
+limit_status (decision.Translated text) st meant l at h e is =
+    let apart : meant ≡ Ok h.0 = h.1 in
+    absurd cc
+limit_status (decision.Refused f) st meant l at h e is = absurd cc
+limit_status (decision.Passed l' at') st meant l at h e is = inl is
+limit_status decision.Unread st meant l at h e is = inr (inl is)
+limit_status decision.OutOfMemory st meant l at h e is = inr (inr (inr is))
+
+pub depth_exactly : (d : Decision) (st : Status) (command : Option Command) (rest0 rest1 : Option (List ℕ)) (i0 i1 : ℕ) (out0 out1 : Option (List ℕ)) (o0 o1 : ℕ) (diag0 diag1 : Option (List ℕ)) (d0 d1 : ℕ)
+    → IsCause d command rest0 rest1 i0 i1 → Says d st out0 out1 o0 o1 diag0 diag1 d0 d1 → command ≡ Some Translate → (bytes : List ℕ) (at : Place) → rest0 ≡ Some bytes → verdict bytes ≡ Err (Passed limit.Depth at)
+    → IsUnlessFaulty status.Limit st
+depth_exactly d st command rest0 rest1 i0 i1 out0 out1 o0 o1 diag0 diag1 d0 d1 cause (inl h) asked bytes at told is =
+    limit_status d st (verdict bytes) limit.Depth at (decides d rest0 rest1 i0 i1 bytes told (under d command rest0 rest1 i0 i1 asked cause)) is h.0
+depth_exactly d st command rest0 rest1 i0 i1 out0 out1 o0 o1 diag0 diag1 d0 d1 cause (inr h) asked bytes at told is = inr (inr (inl h.0))
 
 pub done_exactly : (d : Decision) (st : Status) (command : Option Command) (rest0 rest1 : Option (List ℕ)) (i0 i1 : ℕ) (out0 out1 : Option (List ℕ)) (o0 o1 : ℕ) (diag0 diag1 : Option (List ℕ)) (d0 d1 : ℕ)
     → IsCause d command rest0 rest1 i0 i1 → Says d st out0 out1 o0 o1 diag0 diag1 d0 d1 → command ≡ Some Translate → (bytes : List ℕ) (plain : PlainTree) → rest0 ≡ Some bytes → verdict bytes ≡ Ok plain

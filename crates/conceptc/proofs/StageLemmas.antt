@@ -1,7 +1,6 @@
 -- The stages of the verdict, one behind the other.
-use Rattle.std.proofs.Common.{◌≡◌, ◌≤◌, ◌<◌, ◌⊎◌, inl, inr, ℕ, Bool, true, false, cond, ltb, List, [], ◌∷◌, length, None, Result, Ok, Err, refl, sym, subst}
-use Rattle.std.specs.List.{AllByRecursion}
-use Rattle.std.proofs.lemmas.Bool.{le-leb, lt-ltb, le-ltb}
+use Rattle.std.proofs.Common.{◌≡◌, ◌≤◌, ◌<◌, ◌⊎◌, inl, inr, ℕ, Bool, true, false, ltb, List, [], ◌∷◌, length, Result, Ok, Err, if◌then◌else◌, refl, sym, ap, ◌∙◌, subst}
+use Rattle.std.proofs.lemmas.Bool.{lt-ltb, le-ltb}
 use Rattle.cx_base.specs.Refusal.{Refusal, Refused, Passed, ◌>>=◌}
 use Rattle.cx_base.specs.declared.fault.Fault.{Fault}
 use Rattle.cx_base.specs.declared.kind.Kind.{Kind}
@@ -9,58 +8,26 @@ use Rattle.cx_base.specs.declared.kind.Kind.TheVariants as fault
 use Rattle.cx_base.specs.declared.limit.Limit.{Limit}
 use Rattle.cx_base.specs.declared.limit.Limit.TheVariants as limit
 use Rattle.cx_base.specs.declared.place.Place.{Place}
-use Rattle.cx_lexer.specs.Division.{AreTokens, EndsOnce, IsLexical}
+use Rattle.cx_lexer.specs.Division.{AreTokens, EndsOnce, AreSpelled, IsLexical}
 use Rattle.cx_lexer.specs.Reading.{lexed}
 use Rattle.cx_lexer.specs.Tokens.{TokenTree, fault_at}
-use Rattle.cx_base.specs.declared.value.Scalar.TheVariants as scalar
-use Rattle.cx_tree.specs.Trees.{ExprTree, IntTree, NameTree, CallTree, no_expr, TypeTree, OfCore, ScalarTree}
 use Rattle.cx_tree.specs.UnitTree.{UnitTree}
-use Rattle.cx_parse_decl.specs.Fault.{is_unsupported, misfit_fault, misfit}
-use Rattle.cx_parse_decl.specs.Grammar.{unit_at}
-use Rattle.cx_parse_decl.specs.Spelling.{IsValue, IsInt, GivesValue, Spells, IsMisfit}
-use Rattle.cx_engine.specs.Forms.{unbuilt_in, unbuilt_type, first_unbuilt, forms_unit}
+use Rattle.cx_grammar.specs.Laws.{IsTree}
+use Rattle.cx_grammar.specs.Pieces.{pieces}
+use Rattle.cx_grammar.specs.Words.{is_unsupported, misfit}
+use Rattle.cx_parse_decl.specs.Units.{load_limit, units, IsUnit, IsFaultOf, IsMisfit, IsTooDeep, unit_at}
+use Rattle.cx_engine.specs.Forms.{IsFirstUnbuilt, unsupported, forms_unit}
 use Rattle.cx_engine.specs.Names.{names_unit}
 use Rattle.cx_engine.specs.Plain.{plain_unit, translated}
-use Rattle.conceptc.specs.Decision.{IsTextOf}
-use Rattle.conceptc.specs.Verdict.{IsGrammatical, source_limit, no_place, tree_of, judged, verdict}
+use Rattle.conceptc.specs.Decision.{IsTextOf, IsTooDeepText}
+use Rattle.conceptc.specs.Verdict.{IsGrammatical, IsNaming, source_limit, no_place, tree_of, judged, verdict}
 
 -- a stage that refuses, or the stage behind it
 bind_err : {A B : Type 0} (m : Result A Refusal) (f : A → Result B Refusal) (r : Refusal) → (m >>= f) ≡ Err r → (m ≡ Err r) ⊎ ((x : A) × (m ≡ Ok x) × (f x ≡ Err r))
 bind_err (Ok x) f r e = inr (x, refl, e)
 bind_err (Err d) f r e = inl cc
 
--- ---- the forms that are spelled are built
-
-built_value : (v : ExprTree) → IsValue v → unbuilt_in v ≡ None
-built_value (IntTree m scalar.Int value) h = rw (le-leb value 2147483647 h) refl
-built_value (CallTree m (NameTree callee name) no_expr) h = refl
-built_value other h = absurd h
-
-built_type : (t : TypeTree) → IsInt t → unbuilt_type t ≡ None
-built_type (OfCore m false (ScalarTree scalar.Int) false) h = refl
-built_type other h = absurd h
-
-all_built : (u : UnitTree) → AllByRecursion GivesValue u → first_unbuilt u ≡ None
-all_built [] h = refl
-all_built (f ∷ fs) h = rw (built_type f.type h.0.0, built_value f.value h.0.1, all_built fs h.1) refl
-
-forms_pass : (u : UnitTree) → AllByRecursion GivesValue u → forms_unit u ≡ Ok tt
-unfolding forms_unit
-forms_pass u h = rw (all_built u h) refl
-
--- what a unit whose forms are built is refused for is what its names are
-names_refused : (u : UnitTree) (r : Refusal) → AllByRecursion GivesValue u → translated u ≡ Err r → names_unit u ≡ Err r
-unfolding translated
-names_refused u r built e = by (names_unit u) (rw (forms_pass u built) at e)
-  where
-    by : (m : Result (Unit {0}) Refusal) → (m >>= λ _. Ok (plain_unit u)) ≡ Err r → m ≡ Err r
-    by (Ok x) h = absurd cc
-    by (Err d) h = cc
-
 -- ---- the kinds of fault of the stages
-
-abbrev IsNaming : Kind → Type 0
-IsNaming k = (k ≡ fault.Redeclared) ⊎ (k ≡ fault.UnknownName)
 
 no_name_is_lexical : (k : Kind) → IsNaming k → IsLexical k → ⊥
 no_name_is_lexical k (inl n) (inl h) = cc
@@ -87,13 +54,24 @@ no_token_is_grammatical k (inr (inr n)) (inr h) = cc
 same_fault : (f g : Fault) → Refused f ≡ Refused g → g ≡ f
 same_fault f g e = cc
 
-by_test : (b : Bool) → IsGrammatical (cond b fault.Unsupported fault.Syntax)
+no_fault : (l : Limit) (at : Place) (f : Fault) → Passed l at ≡ Refused f → ⊥
+no_fault l at f e = cc
+
+by_test : (b : Bool) → IsGrammatical (if b then fault.Unsupported else fault.Syntax)
 by_test true = inr refl
 by_test false = inl refl
 
-misfit_kind : (t : TokenTree) → IsGrammatical (misfit_fault t).kind
-unfolding misfit_fault
-misfit_kind t = by_test (is_unsupported t.kind t.text)
+-- a refusal of the grammar's kinds
+abbrev IsOfGrammar : Refusal → Type 0
+IsOfGrammar r = (f : Fault) × (r ≡ Refused f) × IsGrammatical f.kind
+
+misfit_kind : (t : TokenTree) → IsOfGrammar (misfit t)
+unfolding misfit
+misfit_kind t = (_, refl, by_test (is_unsupported t))
+
+fault_kind : (t : TokenTree) (r : Refusal) → IsFaultOf t r → IsOfGrammar r
+fault_kind t r (inl e) = subst (λ (z : Refusal). IsOfGrammar z) (sym e) (misfit_kind t)
+fault_kind t r (inr h) = (_, h.1, inr refl)
 
 -- ---- what the laws of the layers below say
 
@@ -101,11 +79,12 @@ pub record Laws : Type 0 where
   pub read : (bytes : List ℕ) → AreTokens bytes (lexed bytes)
   pub only_read : (bytes : List ℕ) (r : Result (List TokenTree) Refusal) → AreTokens bytes r → r ≡ lexed bytes
   pub ended : (bytes : List ℕ) (ts : List TokenTree) → AreTokens bytes (Ok ts) → EndsOnce ts
+  pub texts : (bytes : List ℕ) (ts : List TokenTree) → AreTokens bytes (Ok ts) → AreSpelled ts
   pub faults : (bytes : List ℕ) (f : Refusal) → AreTokens bytes (Err f) → (k : Kind) × (at : Place) × IsLexical k × (f ≡ fault_at k at)
-  pub found : (ts : List TokenTree) (u : UnitTree) → EndsOnce ts → unit_at ts ≡ Ok u → Spells ts u
-  pub only : (ts : List TokenTree) (u : UnitTree) → Spells ts u → unit_at ts ≡ Ok u
-  pub refused : (ts : List TokenTree) (r : Refusal) → unit_at ts ≡ Err r → (t : TokenTree) × (r ≡ misfit t)
-  pub stops : (ts : List TokenTree) (r : Refusal) → EndsOnce ts → unit_at ts ≡ Err r → IsMisfit ts r
+  pub found : (ts : List TokenTree) (u : UnitTree) → EndsOnce ts → AreSpelled ts → unit_at ts ≡ Ok u → IsUnit ts u
+  pub only : (ts : List TokenTree) (u : UnitTree) → IsUnit ts u → unit_at ts ≡ Ok u
+  pub stops : (ts : List TokenTree) (r : Refusal) → EndsOnce ts → AreSpelled ts → unit_at ts ≡ Err r → IsMisfit ts r ⊎ IsTooDeep ts r
+  pub first : (u : UnitTree) (r : Refusal) → forms_unit u ≡ Err r → (at : Place) × (r ≡ Refused (unsupported at)) × IsFirstUnbuilt u at
   pub kinds : (u : UnitTree) (r : Refusal) → names_unit u ≡ Err r → (f : Fault) × (r ≡ Refused f) × ((f.kind ≡ fault.Redeclared) ⊎ (f.kind ≡ fault.UnknownName))
 
 -- what the reader finds is what the bytes are read as
@@ -118,21 +97,6 @@ are_refused laws bytes r are =
     let h = laws.faults bytes r are in
     (record { kind = h.0; at = h.1; also = []; chain = [] }, h.3, h.2)
 
-grammar_kind : Laws → (ts : List TokenTree) (f : Fault) → unit_at ts ≡ Err (Refused f) → IsGrammatical f.kind
-grammar_kind laws ts f e =
-    let m = laws.refused ts (Refused f) e in
-    subst (λ (g : Fault). IsGrammatical g.kind) (same_fault f (misfit_fault m.0) m.1) (misfit_kind m.0)
-
-name_kind : Laws → (u : UnitTree) (f : Fault) → AllByRecursion GivesValue u → translated u ≡ Err (Refused f) → IsNaming f.kind
-name_kind laws u f built e =
-    let k = laws.kinds u (Refused f) (names_refused u (Refused f) built e) in
-    subst (λ (g : Fault). IsNaming g.kind) (same_fault f k.0 k.1) k.2
-
-token_kind : Laws → (bytes : List ℕ) (f : Fault) → lexed bytes ≡ Err (Refused f) → IsLexical f.kind
-token_kind laws bytes f e =
-    let k = are_refused laws bytes (Refused f) (are_tokens laws.read bytes (Err (Refused f)) e) in
-    subst (λ (g : Fault). IsLexical g.kind) (same_fault f k.0 k.1) k.2
-
 -- ---- the tree of the bytes
 
 tree_found : (m : Result (List TokenTree) Refusal) (u : UnitTree) → (m >>= unit_at) ≡ Ok u → (ts : List TokenTree) × (m ≡ Ok ts) × (unit_at ts ≡ Ok u)
@@ -144,36 +108,93 @@ unfolding tree_of
 is_spelled laws bytes u e =
     let read = tree_found (lexed bytes) u e in
     let are : AreTokens bytes (Ok read.0) = are_tokens laws.read bytes (Ok read.0) read.1 in
-    (read.0, are, laws.found read.0 u (laws.ended bytes read.0 are) read.2)
+    (read.0, are, laws.found read.0 u (laws.ended bytes read.0 are) (laws.texts bytes read.0 are) read.2)
 
 pub is_read : Laws → (bytes : List ℕ) (u : UnitTree) → IsTextOf bytes u → tree_of bytes ≡ Ok u
 unfolding tree_of
 is_read laws bytes u text = rw (← laws.only_read bytes (Ok text.0) text.1) (laws.only text.0 u text.2)
 
--- what is read has forms that are built
-values_of : Laws → (bytes : List ℕ) (u : UnitTree) → tree_of bytes ≡ Ok u → AllByRecursion GivesValue u
-values_of laws bytes u e = (is_spelled laws bytes u e).2.values
-
-pub is_passed : Laws → (bytes : List ℕ) (u : UnitTree) → tree_of bytes ≡ Ok u → forms_unit u ≡ Ok tt
-is_passed laws bytes u e = forms_pass u (values_of laws bytes u e)
-
 -- ---- the stage that refuses
 
-abbrev StageOf : List ℕ → Refusal → Type 0
-StageOf bytes r =
-    (lexed bytes ≡ Err r) ⊎ ((ts : List TokenTree) × (lexed bytes ≡ Ok ts) × (unit_at ts ≡ Err r)) ⊎ ((u : UnitTree) × (tree_of bytes ≡ Ok u) × (translated u ≡ Err r))
+-- the tokens are refused by the grammar
+abbrev IsNoUnit : List ℕ → Refusal → Type 0
+IsNoUnit bytes r = (ts : List TokenTree) × AreTokens bytes (Ok ts) × (IsMisfit ts r ⊎ IsTooDeep ts r)
 
-stage_of : (bytes : List ℕ) (r : Refusal) → judged bytes ≡ Err r → StageOf bytes r
+data StageOf (bytes : List ℕ) (r : Refusal) : Type 0 where
+  Tokens : AreTokens bytes (Err r) → StageOf bytes r
+  Grammar : IsNoUnit bytes r → StageOf bytes r
+  Forms : (u : UnitTree) → tree_of bytes ≡ Ok u → forms_unit u ≡ Err r → StageOf bytes r
+  Names : (u : UnitTree) → tree_of bytes ≡ Ok u → forms_unit u ≡ Ok tt → names_unit u ≡ Err r → StageOf bytes r
+
+no_unit_at : Laws → (bytes : List ℕ) (ts : List TokenTree) (r : Refusal) → lexed bytes ≡ Ok ts → unit_at ts ≡ Err r → IsNoUnit bytes r
+no_unit_at laws bytes ts r e d =
+    let are : AreTokens bytes (Ok ts) = are_tokens laws.read bytes (Ok ts) e in
+    (ts, are, laws.stops ts r (laws.ended bytes ts are) (laws.texts bytes ts are) d)
+
+of_translated : (bytes : List ℕ) (u : UnitTree) (r : Refusal) → tree_of bytes ≡ Ok u → translated u ≡ Err r → StageOf bytes r
+unfolding translated
+of_translated bytes u r read e =
+    elim (bind_err (forms_unit u) (λ _. names_unit u >>= λ _. Ok (plain_unit u)) r e) [
+      | inl h ↦ Forms u read h
+      | inr h ↦ elim (bind_err (names_unit u) (λ _. Ok (plain_unit u)) r h.2) [
+        | inl n ↦ Names u read h.1 n
+        | inr n ↦ let apart = n.2 in absurd cc
+      ]
+    ]
+
+stage_of : Laws → (bytes : List ℕ) (r : Refusal) → judged bytes ≡ Err r → StageOf bytes r
 unfolding judged tree_of
-stage_of bytes r e =
+stage_of laws bytes r e =
     elim (bind_err (tree_of bytes) translated r e) [
-      | inl h ↦ elim (bind_err (lexed bytes) unit_at r h) [ inl l ↦ inl l | inr g ↦ inr (inl g) ]
-      | inr n ↦ inr (inr n)
+      | inl h ↦ elim (bind_err (lexed bytes) unit_at r h) [
+        | inl l ↦ Tokens (are_tokens laws.read bytes (Err r) l)
+        | inr g ↦ Grammar (no_unit_at laws bytes g.0 r g.1 g.2)
+      ]
+      | inr n ↦ of_translated bytes n.0 r n.1 n.2
     ]
 
 judged_lexed : (bytes : List ℕ) (r : Refusal) → lexed bytes ≡ Err r → judged bytes ≡ Err r
 unfolding judged tree_of
 judged_lexed bytes r e = rw e refl
+
+judged_tree : (bytes : List ℕ) (r : Refusal) → tree_of bytes ≡ Err r → judged bytes ≡ Err r
+unfolding judged
+judged_tree bytes r e = rw e refl
+
+judged_forms : (bytes : List ℕ) (u : UnitTree) (r : Refusal) → tree_of bytes ≡ Ok u → forms_unit u ≡ Err r → judged bytes ≡ Err r
+unfolding judged translated
+judged_forms bytes u r read e = rw (read, e) refl
+
+-- ---- kinds by stages
+
+lexical_kind : Laws → (bytes : List ℕ) (f : Fault) → AreTokens bytes (Err (Refused f)) → IsLexical f.kind
+lexical_kind laws bytes f are =
+    let k = are_refused laws bytes (Refused f) are in
+    subst (λ (g : Fault). IsLexical g.kind) (same_fault f k.0 k.1) k.2
+
+misfit_of : (ts : List TokenTree) (f : Fault) → IsMisfit ts (Refused f) ⊎ IsTooDeep ts (Refused f) → IsMisfit ts (Refused f)
+misfit_of ts f (inl m) = m
+misfit_of ts f (inr d) = absurd (no_fault limit.Depth d.piece.token.at f (sym d.passed))
+
+grammar_kind : (ts : List TokenTree) (f : Fault) → IsMisfit ts (Refused f) → IsGrammatical f.kind
+grammar_kind ts f m =
+    let k = fault_kind m.token (Refused f) m.refused in
+    subst (λ (g : Fault). IsGrammatical g.kind) (same_fault f k.0 k.1) k.2
+
+forms_are : Laws → (u : UnitTree) (f : Fault) → forms_unit u ≡ Err (Refused f) → (at : Place) × (f ≡ unsupported at) × IsFirstUnbuilt u at
+forms_are laws u f e =
+    let k = laws.first u (Refused f) e in
+    (k.0, sym (same_fault f (unsupported k.0) k.1), k.2)
+
+forms_kind : Laws → (u : UnitTree) (f : Fault) → forms_unit u ≡ Err (Refused f) → f.kind ≡ fault.Unsupported
+forms_kind laws u f e = ap (λ (g : Fault). g.kind) (forms_are laws u f e).1
+
+naming_kind : Laws → (u : UnitTree) (f : Fault) → names_unit u ≡ Err (Refused f) → IsNaming f.kind
+naming_kind laws u f e =
+    let k = laws.kinds u (Refused f) e in
+    subst (λ (g : Fault). IsNaming g.kind) (same_fault f k.0 k.1) k.2
+
+-- ---- the laws of the stages
 
 pub lexical : Laws → (bytes : List ℕ) (r : Refusal) → AreTokens bytes (Err r) → (judged bytes ≡ Err r) × (f : Fault) × (r ≡ Refused f) × IsLexical f.kind
 lexical laws bytes r are =
@@ -182,58 +203,97 @@ lexical laws bytes r are =
 
 pub lexical_only : Laws → (bytes : List ℕ) (f : Fault) → judged bytes ≡ Err (Refused f) → IsLexical f.kind → AreTokens bytes (Err (Refused f))
 lexical_only laws bytes f e is =
-    elim (stage_of bytes (Refused f) e) [
-      | inl l ↦ are_tokens laws.read bytes (Err (Refused f)) l
-      | inr s ↦ elim s [
-        | inl g ↦ absurd (no_token_is_grammatical f.kind is (grammar_kind laws g.0 f g.2))
-        | inr n ↦ absurd (no_name_is_lexical f.kind (name_kind laws n.0 f (values_of laws bytes n.0 n.1) n.2) is)
-      ]
+    elim (stage_of laws bytes (Refused f) e) [
+      | Tokens l ↦ l
+      | Grammar g ↦ absurd (no_token_is_grammatical f.kind is (grammar_kind g.0 f (misfit_of g.0 f g.2)))
+      | Forms u read h ↦ absurd (no_token_is_grammatical f.kind is (inr (forms_kind laws u f h)))
+      | Names u read built h ↦ absurd (no_name_is_lexical f.kind (naming_kind laws u f h) is)
     ]
-
-judged_tree : (bytes : List ℕ) (r : Refusal) → tree_of bytes ≡ Err r → judged bytes ≡ Err r
-unfolding judged
-judged_tree bytes r e = rw e refl
 
 tree_refused : (bytes : List ℕ) (ts : List TokenTree) (r : Refusal) → lexed bytes ≡ Ok ts → tree_of bytes ≡ Err r → unit_at ts ≡ Err r
 unfolding tree_of
 tree_refused bytes ts r read e = rw read at e
 
-pub is_syntax : Laws → (bytes : List ℕ) (ts : List TokenTree) (r : Refusal) → AreTokens bytes (Ok ts) → tree_of bytes ≡ Err r → (judged bytes ≡ Err r) × (f : Fault) × (r ≡ Refused f) × IsGrammatical f.kind
+pub is_syntax : Laws → (bytes : List ℕ) (ts : List TokenTree) (r : Refusal) → AreTokens bytes (Ok ts) → tree_of bytes ≡ Err r → (judged bytes ≡ Err r) × (IsMisfit ts r ⊎ IsTooDeep ts r)
 is_syntax laws bytes ts r are e =
-    let m = laws.refused ts r (tree_refused bytes ts r (sym (laws.only_read bytes (Ok ts) are)) e) in
-    (judged_tree bytes r e, misfit_fault m.0, m.1, misfit_kind m.0)
+    (judged_tree bytes r e, laws.stops ts r (laws.ended bytes ts are) (laws.texts bytes ts are) (tree_refused bytes ts r (sym (laws.only_read bytes (Ok ts) are)) e))
 
-pub is_misfit : Laws → (bytes : List ℕ) (f : Fault) → judged bytes ≡ Err (Refused f) → IsGrammatical f.kind → (ts : List TokenTree) × AreTokens bytes (Ok ts) × IsMisfit ts (Refused f)
+no_syntax_is_lexical : (k : Kind) → k ≡ fault.Syntax → IsLexical k → ⊥
+no_syntax_is_lexical k e is = no_token_is_grammatical k is (inl e)
+
+syntax_is_no_form : (k : Kind) → k ≡ fault.Syntax → k ≡ fault.Unsupported → ⊥
+syntax_is_no_form k e d = cc
+
+pub is_misfit : Laws → (bytes : List ℕ) (f : Fault) → judged bytes ≡ Err (Refused f) → f.kind ≡ fault.Syntax → (ts : List TokenTree) × AreTokens bytes (Ok ts) × IsMisfit ts (Refused f)
 is_misfit laws bytes f e is =
-    elim (stage_of bytes (Refused f) e) [
-      | inl l ↦ absurd (no_token_is_grammatical f.kind (token_kind laws bytes f l) is)
-      | inr s ↦ elim s [
-        | inl g ↦
-            let are : AreTokens bytes (Ok g.0) = are_tokens laws.read bytes (Ok g.0) g.1 in
-            (g.0, are, laws.stops g.0 (Refused f) (laws.ended bytes g.0 are) g.2)
-        | inr n ↦ absurd (no_name_is_grammatical f.kind (name_kind laws n.0 f (values_of laws bytes n.0 n.1) n.2) is)
-      ]
+    elim (stage_of laws bytes (Refused f) e) [
+      | Tokens l ↦ absurd (no_syntax_is_lexical f.kind is (lexical_kind laws bytes f l))
+      | Grammar g ↦ (g.0, g.1, misfit_of g.0 f g.2)
+      | Forms u read h ↦ absurd (syntax_is_no_form f.kind is (forms_kind laws u f h))
+      | Names u read built h ↦ absurd (no_name_is_grammatical f.kind (naming_kind laws u f h) (inl is))
     ]
 
-pub no_unit : Laws → (bytes : List ℕ) (f : Fault) → judged bytes ≡ Err (Refused f) → IsLexical f.kind ⊎ IsGrammatical f.kind → (u : UnitTree) → IsTextOf bytes u → ⊥
-unfolding judged
-no_unit laws bytes f e is u text =
-    let read : tree_of bytes ≡ Ok u = is_read laws bytes u text in
-    let named : translated u ≡ Err (Refused f) = subst (λ (m : Result UnitTree Refusal). (m >>= translated) ≡ Err (Refused f)) read e in
-    let kind = name_kind laws u f text.2.values named in
-    elim is [ inl h ↦ no_name_is_lexical f.kind kind h | inr h ↦ no_name_is_grammatical f.kind kind h ]
+pub is_form : Laws → (bytes : List ℕ) (u : UnitTree) (r : Refusal) → tree_of bytes ≡ Ok u → forms_unit u ≡ Err r
+    → (judged bytes ≡ Err r) × (at : Place) × (r ≡ Refused (unsupported at)) × IsFirstUnbuilt u at
+is_form laws bytes u r read e =
+    let k = laws.first u r e in
+    (judged_forms bytes u r read e, k.0, k.1, k.2)
 
-no_fault : (l : Limit) (at : Place) (f : Fault) → Passed l at ≡ Refused f → ⊥
-no_fault l at f e = cc
+pub is_unsupported_fault : Laws → (bytes : List ℕ) (f : Fault) → judged bytes ≡ Err (Refused f) → f.kind ≡ fault.Unsupported
+    → ((ts : List TokenTree) × AreTokens bytes (Ok ts) × IsMisfit ts (Refused f)) ⊎ ((u : UnitTree) × (at : Place) × IsTextOf bytes u × (f ≡ unsupported at) × IsFirstUnbuilt u at)
+is_unsupported_fault laws bytes f e is =
+    elim (stage_of laws bytes (Refused f) e) [
+      | Tokens l ↦ absurd (no_token_is_grammatical f.kind (lexical_kind laws bytes f l) (inr is))
+      | Grammar g ↦ inl (g.0, g.1, misfit_of g.0 f g.2)
+      | Forms u read h ↦ let k = forms_are laws u f h in inr (u, k.0, is_spelled laws bytes u read, k.1, k.2)
+      | Names u read built h ↦ absurd (no_name_is_grammatical f.kind (naming_kind laws u f h) (inr is))
+    ]
 
-pub no_limit : Laws → (bytes : List ℕ) (l : Limit) (at : Place) → judged bytes ≡ Err (Passed l at) → ⊥
-no_limit laws bytes l at e =
-    elim (stage_of bytes (Passed l at) e) [
-      | inl h ↦ let k = are_refused laws bytes (Passed l at) (are_tokens laws.read bytes (Err (Passed l at)) h) in no_fault l at k.0 k.1
-      | inr s ↦ elim s [
-        | inl g ↦ let m = laws.refused g.0 (Passed l at) g.2 in no_fault l at (misfit_fault m.0) m.1
-        | inr n ↦ let k = laws.kinds n.0 (Passed l at) (names_refused n.0 (Passed l at) (values_of laws bytes n.0 n.1) n.2) in no_fault l at k.0 k.1
-      ]
+pub is_naming : Laws → (bytes : List ℕ) (f : Fault) → judged bytes ≡ Err (Refused f) → IsNaming f.kind → (u : UnitTree) × IsTextOf bytes u × (forms_unit u ≡ Ok tt) × (names_unit u ≡ Err (Refused f))
+is_naming laws bytes f e is =
+    elim (stage_of laws bytes (Refused f) e) [
+      | Tokens l ↦ absurd (no_name_is_lexical f.kind is (lexical_kind laws bytes f l))
+      | Grammar g ↦ absurd (no_name_is_grammatical f.kind is (grammar_kind g.0 f (misfit_of g.0 f g.2)))
+      | Forms u read h ↦ absurd (no_name_is_grammatical f.kind is (inr (forms_kind laws u f h)))
+      | Names u read built h ↦ (u, is_spelled laws bytes u read, built, h)
+    ]
+
+no_two_trees : (bytes : List ℕ) (u : UnitTree) (r : Refusal) → tree_of bytes ≡ Ok u → tree_of bytes ≡ Err r → ⊥
+no_two_trees bytes u r e d = cc
+
+-- what is refused before the forms is no unit
+lexed_tree : Laws → (bytes : List ℕ) (r : Refusal) → AreTokens bytes (Err r) → tree_of bytes ≡ Err r
+unfolding tree_of
+lexed_tree laws bytes r are = rw (← laws.only_read bytes (Err r) are) refl
+
+same_tokens : Laws → (bytes : List ℕ) (ts us : List TokenTree) → AreTokens bytes (Ok ts) → AreTokens bytes (Ok us) → ts ≡ us
+same_tokens laws bytes ts us a b =
+    let e : ◌≡◌ {A = Result (List TokenTree) Refusal} (Ok ts) (Ok us) = laws.only_read bytes (Ok ts) a ∙ sym (laws.only_read bytes (Ok us) b) in
+    cc
+
+pub no_unit : Laws → ((ts : List TokenTree) (r : Refusal) (u : UnitTree) → IsMisfit ts r → IsTree units (pieces ts) u → ⊥) → (bytes : List ℕ) (f : Fault) → judged bytes ≡ Err (Refused f)
+    → IsLexical f.kind ⊎ (f.kind ≡ fault.Syntax) → (u : UnitTree) → IsTextOf bytes u → ⊥
+no_unit laws none bytes f e (inl is) u text =
+    no_two_trees bytes u (Refused f) (is_read laws bytes u text) (lexed_tree laws bytes (Refused f) (lexical_only laws bytes f e is))
+no_unit laws none bytes f e (inr is) u text =
+    let m = is_misfit laws bytes f e is in
+    none m.0 (Refused f) u m.2 (load_limit, subst (λ (ts : List TokenTree). IsUnit ts u) (same_tokens laws bytes text.0 m.0 text.1 m.1) text.2)
+
+-- a limit is that on the depth
+deep_of : (bytes : List ℕ) (ts : List TokenTree) (l : Limit) (at : Place) → AreTokens bytes (Ok ts) → IsMisfit ts (Passed l at) ⊎ IsTooDeep ts (Passed l at) → (l ≡ limit.Depth) × IsTooDeepText bytes at
+deep_of bytes ts l at are (inl m) = let k = fault_kind m.token (Passed l at) m.refused in absurd (no_fault l at k.0 k.1)
+deep_of bytes ts l at are (inr d) =
+    let same : Passed l at ≡ Passed limit.Depth d.piece.token.at = d.passed in
+    let depth : l ≡ limit.Depth = cc in
+    (depth, (ts, are, subst (λ (z : Limit). IsTooDeep ts (Passed z at)) depth d))
+
+pub is_deep : Laws → (bytes : List ℕ) (l : Limit) (at : Place) → judged bytes ≡ Err (Passed l at) → (l ≡ limit.Depth) × IsTooDeepText bytes at
+is_deep laws bytes l at e =
+    elim (stage_of laws bytes (Passed l at) e) [
+      | Tokens h ↦ let k = are_refused laws bytes (Passed l at) h in absurd (no_fault l at k.0 k.1)
+      | Grammar g ↦ deep_of bytes g.0 l at g.1 g.2
+      | Forms u read h ↦ let k = laws.first u (Passed l at) h in absurd (no_fault l at (unsupported k.0) k.1)
+      | Names u read built h ↦ let k = laws.kinds u (Passed l at) h in absurd (no_fault l at k.0 k.1)
     ]
 
 -- ---- the limit on the bytes

@@ -1,9 +1,10 @@
 -- What each answer of the top call says, and where it comes. In each: the command; what the input had left before and
 -- after the call; what out took before and after it, and diag.
 use Rattle.std.specs.Prelude.{◌≡◌, ◌⊎◌, ℕ, List, ◌++◌, Option, None, Some, Ok, Err}
-use Rattle.cx_base.specs.Refusal.{Refused}
+use Rattle.cx_base.specs.Refusal.{Refused, Passed}
 use Rattle.cx_base.specs.declared.fault.Fault.{Fault}
 use Rattle.cx_base.specs.declared.limit.Limit.TheVariants as limit
+use Rattle.cx_base.specs.declared.place.Place.{Place}
 use Rattle.cx_io.specs.Count.{Rose}
 use Rattle.cx_io.specs.Sink.{Appends, AppendsFront}
 use Rattle.cx_tree.specs.UnitTree.{UnitTree}
@@ -15,7 +16,7 @@ use Rattle.conceptc.specs.declared.command.Command.TheVariants.{Translate}
 use Rattle.conceptc.specs.declared.decision.Decision.{Decision}
 use Rattle.conceptc.specs.declared.status.Status.{Status}
 use Rattle.conceptc.specs.declared.status.Status.TheVariants as status
-use Rattle.conceptc.specs.Decision.{IsTextOf, IsCause, Says, out_text, diag_text, witness_text}
+use Rattle.conceptc.specs.Decision.{IsTextOf, IsTooDeepText, IsCause, Says, out_text, diag_text, witness_text}
 use Rattle.conceptc.specs.Reading.{ReadsWhole, ReadsTooMuch}
 use Rattle.conceptc.specs.Report.{fault_report, limit_report, usage_report, read_fault_report}
 use Rattle.conceptc.specs.Verdict.{no_place, verdict}
@@ -25,7 +26,7 @@ abbrev pub IsDecided : Option Command → Status → Option (List ℕ) → Optio
 IsDecided command st rest0 rest1 i0 i1 out0 out1 o0 o1 diag0 diag1 d0 d1 =
     (d : Decision) × IsCause d command rest0 rest1 i0 i1 × Says d st out0 out1 o0 o1 diag0 diag1 d0 d1
 
--- Done: the input was read to its end, its bytes spell a unit whose verdict is a plain unit; out took the text of the
+-- Done: the input was read to its end, its bytes are a unit whose verdict is a plain unit; out took the text of the
 -- plain unit and then that of the witness; the plain unit does what the unit does.
 abbrev pub IsDone : Option Command → Option (List ℕ) → Option (List ℕ) → Option (List ℕ) → Option (List ℕ) → Option (List ℕ) → Option (List ℕ) → Type 0
 IsDone command rest0 rest1 out0 out1 diag0 diag1 = (bytes : List ℕ) × (unit : UnitTree) × (plain : PlainTree)
@@ -42,10 +43,14 @@ IsIllFormed command rest0 rest1 out0 out1 diag0 diag1 = (bytes : List ℕ) × (f
 abbrev pub IsUsage : Option Command → Option (List ℕ) → Option (List ℕ) → Option (List ℕ) → Option (List ℕ) → Option (List ℕ) → Option (List ℕ) → Type 0
 IsUsage command rest0 rest1 out0 out1 diag0 diag1 = (command ≡ None) × (rest1 ≡ rest0) × (out1 ≡ out0) × Appends diag0 diag1 usage_report
 
--- Limit: more bytes were read than a unit may have.
+-- Limit: more bytes were read than a unit may have, or the input was read to its end, and the verdict on its bytes is the
+-- limit on the depth, at the first token whose load passes it.
 abbrev pub IsLimit : Option Command → Option (List ℕ) → Option (List ℕ) → Option (List ℕ) → Option (List ℕ) → Option (List ℕ) → Option (List ℕ) → Type 0
 IsLimit command rest0 rest1 out0 out1 diag0 diag1 =
-    (command ≡ Some Translate) × ReadsTooMuch rest0 rest1 × (out1 ≡ out0) × Appends diag0 diag1 (limit_report limit.Source no_place)
+    (command ≡ Some Translate) × (out1 ≡ out0)
+    × ((ReadsTooMuch rest0 rest1 × Appends diag0 diag1 (limit_report limit.Source no_place))
+      ⊎ ((bytes : List ℕ) × (at : Place) × ReadsWhole rest0 rest1 bytes × IsTooDeepText bytes at × (verdict bytes ≡ Err (Passed limit.Depth at))
+        × Appends diag0 diag1 (limit_report limit.Depth at)))
 
 -- ReadFault: the input's count of faults, i0 before and i1 after, rose.
 abbrev pub IsReadFault : ℕ → ℕ → Option (List ℕ) → Option (List ℕ) → Option (List ℕ) → Option (List ℕ) → Type 0

@@ -2,12 +2,13 @@
 use Rattle.std.specs.Prelude.{◌≡◌, ◌⊎◌, ℕ, List, [], ◌++◌, codes, Option, Some, None, Ok, Err}
 use Rattle.cx_base.specs.Refusal.{Refused, Passed}
 use Rattle.cx_base.specs.declared.limit.Limit.TheVariants as limit
+use Rattle.cx_base.specs.declared.place.Place.{Place}
 use Rattle.cx_io.specs.Count.{Rose}
 use Rattle.cx_io.specs.Sink.{Appends, AppendsFront}
 use Rattle.cx_lexer.specs.Division.{AreTokens}
 use Rattle.cx_lexer.specs.Tokens.{TokenTree}
 use Rattle.cx_tree.specs.UnitTree.{UnitTree}
-use Rattle.cx_parse_decl.specs.Spelling.{Spells}
+use Rattle.cx_parse_decl.specs.Units.{IsUnit, IsTooDeep}
 use Rattle.cx_plain.specs.PlainTree.{PlainTree}
 use Rattle.cx_plain.specs.PlainText.{plain_text}
 use Rattle.cx_engine.specs.SourceMeaning.{Means}
@@ -21,11 +22,15 @@ use Rattle.conceptc.specs.Reading.{ReadsWhole, ReadsTooMuch}
 use Rattle.conceptc.specs.Report.{fault_report, limit_report, usage_report, read_fault_report}
 use Rattle.conceptc.specs.Verdict.{no_place, tree_of, verdict}
 
--- The bytes are divided into tokens that spell the unit.
+-- The bytes are divided into tokens that are the unit, with no load above the limit.
 abbrev pub IsTextOf : List ℕ → UnitTree → Type 0
-IsTextOf bytes unit = (ts : List TokenTree) × AreTokens bytes (Ok ts) × Spells ts unit
+IsTextOf bytes unit = (ts : List TokenTree) × AreTokens bytes (Ok ts) × IsUnit ts unit
 
--- The bytes spell a unit, whose plain unit is the verdict and does what the unit does; the text is that of the
+-- The bytes are divided into tokens of which that at a place is the first one whose load passes the limit.
+abbrev pub IsTooDeepText : List ℕ → Place → Type 0
+IsTooDeepText bytes at = (ts : List TokenTree) × AreTokens bytes (Ok ts) × IsTooDeep ts (Passed limit.Depth at)
+
+-- The bytes are a unit, whose plain unit is the verdict and does what the unit does; the text is that of the
 -- plain unit.
 abbrev pub IsTranslated : List ℕ → List ℕ → Type 0
 IsTranslated bytes text = (unit : UnitTree) × (plain : PlainTree)

@@ -1,7 +1,7 @@
 -- What a unit's bytes are: the first stop of the stages, else their plain unit.
 --
--- The stages are, in this order: the limit on the bytes; BadByte; the other faults of tokens, by place; the grammar; the
--- forms that are not built; the names; the plain unit.
+-- The stages are, in this order: the limit on the bytes; BadByte; the other faults of tokens, by place; the grammar, with
+-- the limit on the depth; the forms that are not built; the names; the plain unit.
 use Rattle.std.specs.Prelude.{◌≡◌, ◌⊎◌, ℕ, List, length, nat_lt, Result, Err, if◌then◌else◌}
 use Rattle.cx_base.specs.Refusal.{Refusal, Passed, ◌>>=◌}
 use Rattle.cx_base.specs.declared.kind.Kind.{Kind}
@@ -9,7 +9,7 @@ use Rattle.cx_base.specs.declared.kind.Kind.TheVariants as fault
 use Rattle.cx_base.specs.declared.limit.Limit.TheVariants as limit
 use Rattle.cx_base.specs.declared.place.Place.{Place}
 use Rattle.cx_lexer.specs.Reading.{lexed}
-use Rattle.cx_parse_decl.specs.Grammar.{unit_at}
+use Rattle.cx_parse_decl.specs.Units.{unit_at}
 use Rattle.cx_tree.specs.UnitTree.{UnitTree}
 use Rattle.cx_plain.specs.PlainTree.{PlainTree}
 use Rattle.cx_engine.specs.Plain.{translated}
@@ -25,6 +25,10 @@ no_place = record { line = 0; col = 0 }
 -- The kinds of fault of the grammar.
 abbrev pub IsGrammatical : Kind → Type 0
 IsGrammatical k = (k ≡ fault.Syntax) ⊎ (k ≡ fault.Unsupported)
+
+-- The kinds of fault of the names.
+abbrev pub IsNaming : Kind → Type 0
+IsNaming k = (k ≡ fault.Redeclared) ⊎ (k ≡ fault.UnknownName)
 
 -- The tree of the bytes: all tokens, then the grammar.
 unfoldable pub tree_of : List ℕ → Result UnitTree Refusal

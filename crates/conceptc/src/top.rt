@@ -1,6 +1,8 @@
 ghost use Rattle.std.specs.Prelude.{◌≡◌, ◌⊎◌, ◌≤◌, ◌<◌, ℕ, List, length, map, Some, None, Ok, Err};
-ghost use Rattle.cx_base.specs.Refusal.{Refused};
+ghost use Rattle.cx_base.specs.Refusal.{Refused, Passed};
 ghost use Rattle.cx_base.specs.declared.fault.Fault.{Fault};
+ghost use Rattle.cx_base.specs.declared.limit.Limit.TheVariants as limit;
+ghost use Rattle.cx_base.specs.declared.place.Place.{Place};
 ghost use Rattle.cx_io.specs.Count.{Rose};
 ghost use Rattle.cx_plain.specs.PlainTree.{PlainTree};
 ghost use Rattle.conceptc.specs.declared.command.Command.TheVariants.{Translate};
@@ -19,7 +21,7 @@ use std::alloc::Global;
 /// `out`, or a report on `diag`.
 ///
 /// Unless memory lacks, or reading or writing fails, a unit is translated exactly where its verdict is a plain unit, and
-/// refused with the report of the fault that its verdict is elsewhere.
+/// refused with the report of the fault or the limit that its verdict is elsewhere.
 pub fn conceptc<S: Source, O: Sink, D: Sink>(
     alloc: Global,
     words: &[&str],
@@ -50,6 +52,8 @@ pub fn conceptc<S: Source, O: Sink, D: Sink>(
     // Where each answer comes, of an input that tells its bytes.
     ensures usage_exactly { command_of (map (λ w. w.now) words.now) ≡ None → (result ≡ Status.Usage) ⊎ (result ≡ Status.WriteFault) }
     ensures limit_exactly { command_of (map (λ w. w.now) words.now) ≡ Some Translate → (bytes : List ℕ) → S.rest input.old ≡ Some bytes → source_limit < length bytes
+        → IsUnlessFaulty Status.Limit result }
+    ensures depth_exactly { command_of (map (λ w. w.now) words.now) ≡ Some Translate → (bytes : List ℕ) (at : Place) → S.rest input.old ≡ Some bytes → verdict bytes ≡ Err (Passed limit.Depth at)
         → IsUnlessFaulty Status.Limit result }
     ensures ill_formed_exactly { command_of (map (λ w. w.now) words.now) ≡ Some Translate → (bytes : List ℕ) (fault : Fault) → S.rest input.old ≡ Some bytes → verdict bytes ≡ Err (Refused fault)
         → IsUnlessFaulty Status.IllFormed result }

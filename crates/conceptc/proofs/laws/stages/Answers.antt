@@ -1,4 +1,4 @@
-use Rattle.conceptc.proofs.StageLemmas.{Laws, is_spelled, is_read, lexical, lexical_only, is_syntax, is_misfit, is_passed, no_unit, no_limit}
+use Rattle.conceptc.proofs.StageLemmas.{Laws, is_spelled, is_read, lexical, lexical_only, is_syntax, is_misfit, is_deep, is_form, is_unsupported_fault, is_naming, no_unit}
 use Rattle.conceptc.proofs.laws.stages.Goals as goal
 
 pub returns : goal.returns
@@ -7,11 +7,12 @@ returns c =
       read = c.one_division.ensures.found;
       only_read = c.one_division.ensures.only;
       ended = c.one_division.ensures.ended;
+      texts = c.one_division.ensures.spelled;
       faults = c.one_division.ensures.faults;
-      found = c.one_spelling.ensures.found;
-      only = c.one_spelling.ensures.only;
-      refused = c.one_spelling.ensures.refused;
-      stops = c.one_spelling.ensures.stops;
+      found = c.one_unit.ensures.found;
+      only = c.one_unit.ensures.only;
+      stops = c.one_unit.ensures.stops;
+      first = c.forms_of_a_unit.ensures.first;
       kinds = c.names_of_a_unit.ensures.kinds;
     } in
     record {
@@ -21,7 +22,9 @@ returns c =
       lexical_only = lexical_only laws;
       syntax = is_syntax laws;
       misfit = is_misfit laws;
-      forms = is_passed laws;
-      no_unit = no_unit laws;
-      limits = no_limit laws;
+      limits = is_deep laws;
+      forms = is_form laws;
+      unsupported = is_unsupported_fault laws;
+      names = is_naming laws;
+      no_unit = no_unit laws c.one_unit.ensures.none;
     }
