@@ -101,8 +101,7 @@ PassDepth = (bytes : List ℕ) (l : Limit) (at : Place) → judged bytes ≡ Err
 limit_cause : (l : Limit) (at : Place) (rest0 rest1 out0 out1 diag0 diag1 : Option (List ℕ)) → PassDepth → IsWholeCause (decision.Passed l at) rest0 rest1 ⊎ IsTooMuch (decision.Passed l at) rest0 rest1
     → out1 ≡ out0 → Appends diag0 diag1 (limit_report l at) → IsLimit (Some Translate) rest0 rest1 out0 out1 diag0 diag1
 limit_cause l at rest0 rest1 out0 out1 diag0 diag1 limits (inl h) put said =
-    let d = limits h.0 l at (sym (within h.0 h.1.2) ∙ h.2) in
-    (
+    let d = limits h.0 l at (sym (within h.0 h.1.2) ∙ h.2) in (
       refl,
       put,
       inr (

@@ -49,8 +49,8 @@ abbrev pub IsLimit : Option Command → Option (List ℕ) → Option (List ℕ) 
 IsLimit command rest0 rest1 out0 out1 diag0 diag1 =
     (command ≡ Some Translate) × (out1 ≡ out0)
     × ((ReadsTooMuch rest0 rest1 × Appends diag0 diag1 (limit_report limit.Source no_place))
-      ⊎ ((bytes : List ℕ) × (at : Place) × ReadsWhole rest0 rest1 bytes × IsTooDeepText bytes at × (verdict bytes ≡ Err (Passed limit.Depth at))
-        × Appends diag0 diag1 (limit_report limit.Depth at)))
+    ⊎ ((bytes : List ℕ) × (at : Place) × ReadsWhole rest0 rest1 bytes × IsTooDeepText bytes at × (verdict bytes ≡ Err (Passed limit.Depth at))
+    × Appends diag0 diag1 (limit_report limit.Depth at)))
 
 -- ReadFault: the input's count of faults, i0 before and i1 after, rose.
 abbrev pub IsReadFault : ℕ → ℕ → Option (List ℕ) → Option (List ℕ) → Option (List ℕ) → Option (List ℕ) → Type 0

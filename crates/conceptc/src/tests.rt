@@ -81,6 +81,15 @@ fn units_are_translated(rt: HostRuntime) -> Result<(), Fail> {
             "int \u{e9}() { return 1; }",
             "// plain 1\nint p0_\u{e9}();\nint p0_\u{e9}() {\n  return 1;\n}\n//= witness 1\n",
         ),
+        // operators, parentheses
+        (
+            "int f() { return 2 + 3 * -4; }",
+            "// plain 1\nint p0_f();\nint p0_f() {\n  return (2 + (3 * (-4)));\n}\n//= witness 1\n",
+        ),
+        (
+            "int f() { return (2 - +f()) % 7; }",
+            "// plain 1\nint p0_f();\nint p0_f() {\n  return ((2 - p0_f()) % 7);\n}\n//= witness 1\n",
+        ),
         // comments, line markers and other spellings of a number
         (
             "int f() { return 0x7fffffff; } // c",
@@ -121,19 +130,21 @@ fn faults_have_their_kinds_and_places(rt: HostRuntime) -> Result<(), Fail> {
         ("int and() { return 1; }", "fault Syntax 1:5\n"),
         ("int int() { return 1; }", "fault Syntax 1:5\n"),
         ("int f() { return xor_eq(); }", "fault Syntax 1:18\n"),
-        // literals of another type
-        ("int f() { return 1u; }", "fault Syntax 1:18\n"),
-        ("int f() { return 7u; }", "fault Syntax 1:18\n"),
-        ("int f() { return 1ll; }", "fault Syntax 1:18\n"),
-        ("int f() { return 2147483648; }", "fault Syntax 1:18\n"),
-        ("int f() { return 0x80000000; }", "fault Syntax 1:18\n"),
+        // within an expression, and behind it
         ("int f() { return \"1\"; }", "fault Syntax 1:18\n"),
+        ("int f() { return (1; }", "fault Syntax 1:20\n"),
+        ("int f() { return 1 + ; }", "fault Syntax 1:22\n"),
+        ("int f() { return 1 2; }", "fault Syntax 1:20\n"),
         // tokens that are never used
         ("int f() { goto x; }", "fault Unsupported 1:11\n"),
         ("int double() { return 1; }", "fault Unsupported 1:5\n"),
         ("int f() { return f[0]; }", "fault Unsupported 1:19\n"),
         ("int f(...) { return 1; }", "fault Unsupported 1:7\n"),
         ("int f() { return f <=> f; }", "fault Unsupported 1:20\n"),
+        (
+            "int f() { return 1 + requires { }; }",
+            "fault Unsupported 1:22\n",
+        ),
         // what is skipped takes its place
         ("/* a */ int f() { return }", "fault Syntax 1:26\n"),
         (
@@ -171,6 +182,64 @@ fn faults_have_their_kinds_and_places(rt: HostRuntime) -> Result<(), Fail> {
     ];
     for (text, diag) in cases {
         expect(&rt, rt.alloc(), text, (Status::IllFormed, "", diag))?;
+    }
+    Ok(())
+}
+
+#[test]
+fn forms_that_are_not_built_come_before_names(rt: HostRuntime) -> Result<(), Fail> {
+    let cases = [
+        // literals of another type
+        ("int f() { return 1u; }", "fault Unsupported 1:18\n"),
+        ("int f() { return 1ll; }", "fault Unsupported 1:18\n"),
+        ("int f() { return 2147483648; }", "fault Unsupported 1:18\n"),
+        ("int f() { return 0x80000000; }", "fault Unsupported 1:18\n"),
+        // names that are not called, calls with arguments
+        ("int f() { return f; }", "fault Unsupported 1:18\n"),
+        ("int f() { return f(1); }", "fault Unsupported 1:18\n"),
+        // a node before its parts, the parts in the order of the text
+        ("int f() { return !-1u; }", "fault Unsupported 1:18\n"),
+        ("int f() { return -!1u; }", "fault Unsupported 1:19\n"),
+        (
+            "int f() { return 1 + (2 < 3u); }",
+            "fault Unsupported 1:23\n",
+        ),
+        ("int f() { return 1 + 2 * 3u; }", "fault Unsupported 1:26\n"),
+        ("int f() { return 1u + true; }", "fault Unsupported 1:18\n"),
+        // before the names, wherever they stand
+        (
+            "int f() { return x(); } int f() { return 1u; }",
+            "fault Unsupported 1:42\n",
+        ),
+        // behind what does not fit
+        ("int f() { return 1u } int", "fault Syntax 1:21\n"),
+    ];
+    for (text, diag) in cases {
+        expect(&rt, rt.alloc(), text, (Status::IllFormed, "", diag))?;
+    }
+    Ok(())
+}
+
+/// A function whose value is 1 in so many pairs of parentheses.
+fn nested(alloc: Global, pairs: usize) -> Result<Vec<u8>, AllocError> {
+    let mut text = b"int f() { return ".to_vec(alloc)?;
+    text.extend_from_slice(&vec![in alloc; b'('; pairs]?)?;
+    text.push(b'1')?;
+    text.extend_from_slice(&vec![in alloc; b')'; pairs]?)?;
+    text.extend_from_slice(b"; }")?;
+    Ok(text)
+}
+
+#[test]
+fn constructs_are_nested_so_deep_at_most(rt: HostRuntime) -> Result<(), Fail> {
+    let out = "// plain 1\nint p0_f();\nint p0_f() {\n  return 1;\n}\n//= witness 1\n";
+    let cases = [
+        (253, (Status::Done, out, "")),
+        (254, (Status::Limit, "", "limit Depth 1:271\n")),
+    ];
+    for (pairs, wanted) in cases {
+        let text = nested(rt.alloc(), pairs)?;
+        expect_of(&rt, rt.alloc(), &text, wanted)?;
     }
     Ok(())
 }

@@ -54,11 +54,7 @@ fn statement<'t, 's>(
 
 /// A body: one statement in braces ([stmt.block]), in a scope of its own.
 #[tactic(auto, unfolding(crate::specs::Functions::body))]
-fn body<'t, 's>(
-    alloc: Global,
-    scope: &mut Scope<'s>,
-    spot: Spot<'t, 's>,
-) -> Read<'t, 's, Block<'s>>
+fn body<'t, 's>(alloc: Global, scope: &mut Scope<'s>, spot: Spot<'t, 's>) -> Read<'t, 's, Block<'s>>
     requires room { weight spot < 2 ^ 32 }
     ensures exact { ReadsNode block_tree (productions.body (levels depth) (deeper (unit_context scope.old))) spot.entry result }
     ensures lightens { Lightens 16 spot.entry result }

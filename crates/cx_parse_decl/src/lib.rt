@@ -7,3 +7,6 @@ mod unit;
 
 pub use laws::{laws_of_functions, one_unit};
 pub use unit::parse_unit;
+
+#[cfg(test)]
+mod tests;
