@@ -24,6 +24,3 @@ pub use calls::{
 pub use parse::{Ids, parse_clause, parse_expr, parse_type};
 pub use primary::Calling;
 pub use types::type_behind;
-
-#[cfg(test)]
-mod tests;

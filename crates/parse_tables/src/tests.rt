@@ -1,6 +1,6 @@
-use crate::{Ids, parse_clause, parse_expr, parse_type};
 use cx_base::Stop;
 use cx_lexer::{lex, one_division};
+use cx_parse_expr::{Ids, parse_clause, parse_expr, parse_type};
 use cx_scope::{NameKind, Scope};
 use cx_tree::TemplateArgument;
 use printer::write_tree;
