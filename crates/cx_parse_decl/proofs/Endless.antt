@@ -1,11 +1,11 @@
 -- The end of a unit is in no tree or beginning of most productions.
-use Rattle.std.proofs.Common.{◌≡◌, ℕ, zero, suc, ◌≤◌, Bool, true, false, ◌&&◌, ◌||◌, not, nat_le, Option, None, is_some, if◌then◌else◌, List, [], ◌∷◌, ◌++◌, codes, refl, sym, ap, ◌∙◌, subst, true≢false, inl, inr, ◌⊎◌}
+use Rattle.std.proofs.Common.{◌≡◌, ℕ, zero, suc, Bool, true, false, ◌&&◌, ◌||◌, not, nat_le, Option, None, is_some, if◌then◌else◌, List, [], ◌∷◌, ◌++◌, codes, refl, sym, ap, ◌∙◌, true≢false, inl, inr}
 use Rattle.std.specs.Str.{bytes_eq}
 use Rattle.cx_lexer.specs.declared.token.TokenKind.{TokenKind}
 use Rattle.cx_lexer.specs.declared.token.TokenKind.TheVariants as kind
 use Rattle.cx_scope.specs.declared.name_kind.NameKind.{NameKind}
 use Rattle.cx_tree.specs.declared.operators.BinaryOperator.{BinaryOperator}
-use Rattle.cx_grammar.specs.Pieces.{Piece, Half, All, First, Second}
+use Rattle.cx_grammar.specs.Pieces.{Piece, Half, First, Second}
 use Rattle.cx_grammar.specs.Words.{is_word_kind, is_punct_kind, is_int_kind, is_name_kind, is_all, is_first, is_second, word, punct, any_name, literal_token, second_half, spelling}
 use Rattle.cx_grammar.specs.Names.{Context, kind_name}
 use Rattle.cx_grammar.specs.Types.{closes, one_word}

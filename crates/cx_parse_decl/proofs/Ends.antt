@@ -1,5 +1,5 @@
 -- Where the tokens of a unit end, and the tokens that pieces belong to.
-use Rattle.std.proofs.Common.{◌≡◌, ◌≢◌, ℕ, ◌≤◌, Bool, true, false, ◌&&◌, ◌||◌, List, [], ◌∷◌, ◌++◌, length, codes, if◌then◌else◌, refl, sym, ap, ◌∙◌, subst, true≢false, append-nil, append_assoc}
+use Rattle.std.proofs.Common.{◌≡◌, ◌≢◌, ℕ, Bool, true, false, ◌&&◌, ◌||◌, List, [], ◌∷◌, ◌++◌, codes, if◌then◌else◌, refl, sym, ap, ◌∙◌, subst, true≢false, append-nil, append_assoc}
 use Rattle.std.specs.Str.{bytes_eq}
 use Rattle.cx_lexer.specs.declared.token.TokenKind.{TokenKind}
 use Rattle.cx_lexer.specs.declared.token.TokenKind.TheVariants as kind
@@ -8,7 +8,7 @@ use Rattle.cx_lexer.specs.Tokens.{TokenTree}
 use Rattle.cx_grammar.specs.Pieces.{Piece, First, Second, All, as_piece, is_double, halves, pieces}
 use Rattle.cx_grammar.specs.Declarations.{is_end_kind}
 use Rattle.cx_spots.specs.Ends.{is_end, ends}
-use Rattle.cx_parse_decl.proofs.Endless.{is_last, has_last, last_parts}
+use Rattle.cx_parse_decl.proofs.Endless.{is_last, has_last}
 
 -- ---- the end
 

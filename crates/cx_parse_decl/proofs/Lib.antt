@@ -6,3 +6,4 @@ pub mod EndlessExpressions
 pub mod Ends
 pub mod Readings
 pub mod Parsing
+pub mod Whole

@@ -1,5 +1,5 @@
 -- The nodes of a unit are numbered from 0 on.
-use Rattle.std.proofs.Common.{length-append, ◌≡◌, ℕ, ◌+◌, ◌*◌, ◌≤◌, ◌<◌, Bool, true, false, List, [], ◌∷◌, ◌++◌, length, if◌then◌else◌, refl, ap, sym, ◌∙◌, append-nil, append_assoc, arith}
+use Rattle.std.proofs.Common.{length-append, ◌≡◌, ℕ, ◌+◌, ◌*◌, ◌≤◌, Bool, true, false, List, [], ◌∷◌, ◌++◌, length, if◌then◌else◌, refl, ap, sym, ◌∙◌, append-nil, append_assoc, arith}
 use Rattle.cx_lexer.specs.Tokens.{TokenTree}
 use Rattle.cx_scope.specs.Frames.{entered}
 use Rattle.cx_tree.specs.Trees.{Mark}
@@ -8,12 +8,11 @@ use Rattle.cx_tree.specs.UnitTree.{FunctionTree, UnitTree, function_nodes, unit_
 use Rattle.cx_grammar.specs.Names.{Context, deeper}
 use Rattle.cx_grammar.specs.Pieces.{Piece, First, Second, All, as_piece, is_double, halves, pieces}
 use Rattle.cx_grammar.specs.Types.{Numbered, Below, numbered}
-use Rattle.cx_grammar.specs.Expressions.{levels}
 use Rattle.cx_grammar.specs.Statements.{Named, with_names}
 use Rattle.cx_grammar.specs.Declarations.{is_not_end}
 use Rattle.cx_grammar.specs.Laws.{IsTree}
 use Rattle.cx_grammar.proofs.Counts.{Yields, give-Yields, then-Yields, take, repeat-Yields, Counted, seq, none, leaf, node, node_ahead, sooner, as_list}
-use Rattle.cx_grammar.proofs.NumbersTypes.{OfExpr, BelowCounts}
+use Rattle.cx_grammar.proofs.NumbersTypes.{BelowCounts}
 use Rattle.cx_grammar.proofs.NumbersExpressions.{levels-Counts, expr-Yields}
 use Rattle.cx_parse_decl.specs.Functions.{ReturnTree, BodyTree, in_body, return_of, body, function_of, with_function, function, more_function, outermost, unit}
 use Rattle.cx_parse_decl.specs.Units.{units}

@@ -1,5 +1,5 @@
 -- What is read of a unit, from what is read of its functions.
-use Rattle.std.proofs.Common.{◌≡◌, ℕ, suc, ◌+◌, ◌*◌, ◌≤◌, Bool, true, false, not, true≢false, List, [], ◌∷◌, length, Result, Ok, Err, if◌then◌else◌, refl, sym, ap, ◌∙◌, subst, arith}
+use Rattle.std.proofs.Common.{◌≡◌, ℕ, suc, ◌≤◌, Bool, true, false, not, true≢false, List, [], ◌∷◌, length, Result, Ok, refl, sym, ap, ◌∙◌, subst, arith}
 use Rattle.cx_base.specs.Refusal as refusals
 use Rattle.cx_base.specs.declared.stop.Stop.{Stop}
 use Rattle.cx_base.specs.declared.stop.Stop.TheVariants as stop
@@ -7,7 +7,7 @@ use Rattle.cx_lexer.specs.Tokens.{TokenTree}
 use Rattle.cx_scope.specs.Frames.{Frames, entered}
 use Rattle.cx_tree.specs.UnitTree.{UnitTree}
 use Rattle.cx_grammar.specs.Pieces.{Piece, pieces}
-use Rattle.cx_grammar.specs.Production.{Stopped, At, Stops, ◌>>>◌, read_token, times, repeat}
+use Rattle.cx_grammar.specs.Production.{Stopped, Stops, ◌>>>◌, read_token, times, repeat}
 use Rattle.cx_grammar.specs.Expressions.{levels}
 use Rattle.cx_grammar.specs.Statements.{Named}
 use Rattle.cx_grammar.specs.Declarations.{is_not_end}

@@ -1,11 +1,11 @@
 -- What the reader of units gives, in words of tokens.
-use Rattle.std.proofs.Common.{inl, inr, ◌≡◌, ◌≤◌, ◌⊎◌, ℕ, ◌+◌, Bool, true, false, List, [], ◌∷◌, ◌++◌, length, length-append, codes, Result, Ok, Err, refl, sym, ap, ◌∙◌, subst, true≢false, append-nil, append_assoc, arith}
+use Rattle.std.proofs.Common.{inl, inr, ◌≡◌, ◌≤◌, ◌⊎◌, ℕ, true, List, [], ◌∷◌, ◌++◌, length, length-append, Result, Ok, Err, refl, sym, ap, ◌∙◌, subst, true≢false, append-nil, append_assoc, arith}
 use Rattle.cx_base.specs.Refusal.{Refusal}
 use Rattle.cx_lexer.specs.Division.{EndsOnce, AreSpelled}
 use Rattle.cx_lexer.specs.Tokens.{TokenTree}
 use Rattle.cx_tree.specs.UnitTree.{UnitTree}
 use Rattle.cx_grammar.specs.Pieces.{Piece, halves, pieces}
-use Rattle.cx_grammar.specs.Production.{Production, Stopped, At, Ended, give, ◌>>=◌, token, repeat}
+use Rattle.cx_grammar.specs.Production.{Production, Stopped, give, ◌>>=◌, token, repeat}
 use Rattle.cx_grammar.specs.Words.{word}
 use Rattle.cx_grammar.specs.Names.{Context}
 use Rattle.cx_scope.specs.Frames.{entered}
@@ -17,7 +17,7 @@ use Rattle.cx_grammar.specs.Laws.{IsTreeWithin, BeginsWithin, IsTree, Begins, Fa
 use Rattle.cx_grammar.proofs.Expressions.{levels-Grows}
 use Rattle.cx_grammar.proofs.GrammarLaws.{front_first}
 use Rattle.cx_parse_decl.specs.Functions.{return_of, body, function, more_function, outermost, unit, is_end}
-use Rattle.cx_parse_decl.specs.Units.{load_limit, depth, units, IsUnit, BeginsUnit, BeginsUnitWithin, IsFaultOf, IsMisfit, IsTooDeep, answer, unit_at}
+use Rattle.cx_parse_decl.specs.Units.{load_limit, depth, units, IsUnit, IsFaultOf, IsMisfit, IsTooDeep, answer, unit_at}
 use Rattle.cx_parse_decl.proofs.Endless.{Endless, has_last, last_parts, repeat-Endless}
 use Rattle.cx_parse_decl.proofs.EndlessTypes.{BelowEndless, endlessness}
 use Rattle.cx_parse_decl.proofs.EndlessExpressions.{levels-Endless, expr-Endless}

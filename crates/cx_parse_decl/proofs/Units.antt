@@ -1,10 +1,9 @@
 -- The laws of the production of a unit of functions, from those of expressions.
-use Rattle.std.proofs.Common.{◌≡◌, ◌≤◌, ℕ, suc, ◌+◌, arith}
+use Rattle.std.proofs.Common.{◌≤◌, ℕ, suc, ◌+◌, arith}
 use Rattle.cx_tree.specs.UnitTree.{UnitTree}
 use Rattle.cx_grammar.specs.Production.{repeat}
 use Rattle.cx_grammar.specs.Names.{Context}
 use Rattle.cx_grammar.specs.Types.{Below}
-use Rattle.cx_grammar.specs.Expressions.{levels}
 use Rattle.cx_grammar.specs.Statements.{Named}
 use Rattle.cx_grammar.specs.Declarations.{is_not_end}
 use Rattle.cx_grammar.specs.Laws.{GrammarLaws, WholeTokens}
@@ -18,10 +17,10 @@ use Rattle.cx_grammar.proofs.FirmExpressions.{levels-Firm, expr-Firm}
 use Rattle.cx_grammar.proofs.AloneTypes.{BelowAlone, aloneness}
 use Rattle.cx_grammar.proofs.AloneExpressions.{levels-Alone, expr-Alone}
 use Rattle.cx_grammar.proofs.Even.{Even, repeat-Even}
-use Rattle.cx_grammar.proofs.EvenExpressions.{BelowEven, evenness, levels-Even, expr-Even}
+use Rattle.cx_grammar.proofs.EvenExpressions.{BelowEven, evenness, levels-Even}
 use Rattle.cx_grammar.proofs.WholeTokens.{even_tokens}
-use Rattle.cx_grammar.proofs.GrammarLaws.{Lasting, lasting_laws}
-use Rattle.cx_parse_decl.specs.Functions.{return_of, body, function, more_function, outermost, unit}
+use Rattle.cx_grammar.proofs.GrammarLaws.{lasting_laws}
+use Rattle.cx_parse_decl.specs.Functions.{return_of, body, function, more_function, unit}
 use Rattle.cx_parse_decl.specs.Units.{units}
 
 ruleset filling = (token-Filled, first-Filled)

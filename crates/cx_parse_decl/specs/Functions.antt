@@ -4,7 +4,7 @@
 --   function = "int" Name "(" ")" "{" "return" expr ";" "}"
 --
 -- Loads, names and places are those of the whole grammar's units.
-use Rattle.std.specs.Prelude.{ℕ, ◌+◌, Bool, false, List, [], ◌∷◌, ◌++◌, codes}
+use Rattle.std.specs.Prelude.{ℕ, ◌+◌, Bool, false, [], ◌∷◌, ◌++◌, codes}
 use Rattle.cx_base.specs.declared.value.Scalar.TheVariants as scalar
 use Rattle.cx_scope.specs.declared.name_kind.NameKind.TheVariants as names
 use Rattle.cx_scope.specs.Frames.{Frames, noted, entered}

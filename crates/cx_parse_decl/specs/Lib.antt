@@ -1,3 +1,4 @@
 pub mod Functions
 pub mod Units
 pub mod Views
+pub mod Whole

@@ -3,15 +3,14 @@ use Rattle.std.specs.Prelude.{◌≡◌, ◌⊎◌, ℕ, true, List, [], ◌∷�
 use Rattle.cx_base.specs.Refusal.{Refusal, Passed}
 use Rattle.cx_base.specs.declared.kind.Kind.TheVariants as fault
 use Rattle.cx_base.specs.declared.limit.Limit.TheVariants as limits
-use Rattle.cx_base.specs.declared.place.Place.{Place}
 use Rattle.cx_lexer.specs.Places.{start}
 use Rattle.cx_lexer.specs.Tokens.{TokenTree, end_at}
 use Rattle.cx_tree.specs.UnitTree.{UnitTree}
 use Rattle.cx_grammar.specs.Pieces.{Piece, as_piece, All, pieces}
 use Rattle.cx_grammar.specs.Words.{misfit, refused, word}
-use Rattle.cx_grammar.specs.Production.{Stopped, Ended, Exhausted, At}
+use Rattle.cx_grammar.specs.Production.{Stopped, At}
 use Rattle.cx_grammar.specs.Expressions.{levels}
-use Rattle.cx_grammar.specs.Laws.{Levelled, IsTreeWithin, BeginsWithin, IsTree, Begins}
+use Rattle.cx_grammar.specs.Laws.{Levelled, IsTreeWithin, BeginsWithin, Begins}
 use Rattle.cx_parse_decl.specs.Functions.{unit}
 
 -- The greatest load that a token may have.

@@ -1,4 +1,4 @@
-use Rattle.std.proofs.Common.{◌≡◌, ℕ, ◌+◌, ◌<◌, ◌≤◌, List, [], length, map, ap, arith}
+use Rattle.std.proofs.Common.{List, length, map, ap, arith}
 use Rattle.cx_tree.specs.declared.function.Function.{Function}
 use Rattle.cx_tree.specs.UnitTree.{function_tree}
 use Rattle.cx_grammar.specs.Declarations.{is_not_end}

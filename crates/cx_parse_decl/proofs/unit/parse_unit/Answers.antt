@@ -1,10 +1,10 @@
-use Rattle.std.proofs.Common.{◌≡◌, ◌∙◌, ℕ, ◌+◌, ◌*◌, ◌<◌, ◌≤◌, List, ap, map, length, arith}
+use Rattle.std.proofs.Common.{◌∙◌, List, ap, map, length, arith}
 use Rattle.std.proofs.lemmas.List.{length-map}
 use Rattle.std.proofs.lemmas.Result.{err_from_is_err_and}
 use Rattle.cx_lexer.specs.Tokens.{token_tree}
 use Rattle.cx_scope.specs.Frames.{Frames, entered}
 use Rattle.cx_tree.specs.UnitTree.{function_tree}
-use Rattle.cx_grammar.specs.Pieces.{Piece, pieces}
+use Rattle.cx_grammar.specs.Pieces.{Piece}
 use Rattle.cx_spots.specs.Spots.{left_at}
 use Rattle.cx_parse_decl.proofs.Ends.{tokens_end}
 use Rattle.cx_parse_decl.proofs.Numbers.{length-pieces}
