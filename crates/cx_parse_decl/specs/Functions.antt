@@ -49,7 +49,7 @@ body b c n = do
   close_brace ← token (c.load + 1) (punct (codes "}"))
   give (record { mark = numbered s.1 open_brace.token.at; statement = s.0 }, s.1 + 1)
 
--- the type `int`
+-- the function that was read: its type is `int`
 abbrev pub function_of : ℕ → Piece → Piece → Numbered BodyTree → FunctionTree
 function_of n int name s = record {
   mark = numbered s.1 name.token.at;
