@@ -1,3 +1,5 @@
+//! Trees in short: each operand in parentheses, parentheses of the text in brackets.
+
 use cx_base::Scalar;
 use cx_tree::{
     AssignmentOperator, BinaryOperator, Core, Expr, PostfixOperator, TemplateArgument, TypeSyn,
@@ -292,7 +294,7 @@ fn write_expr(out: &mut String, expr: &Expr<'_>) -> Result<(), AllocError> {
 }
 
 /// An expression or a type.
-pub(super) fn write_tree(out: &mut String, tree: &TemplateArgument<'_>) -> Result<(), AllocError> {
+pub(crate) fn write_tree(out: &mut String, tree: &TemplateArgument<'_>) -> Result<(), AllocError> {
     match tree {
         TemplateArgument::Type(syn) => write_type(out, syn),
         TemplateArgument::Value(expr) => write_expr(out, expr),
