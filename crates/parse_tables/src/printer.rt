@@ -93,11 +93,13 @@ fn write_names(out: &mut String, names: &[&str]) -> Result<(), AllocError> {
 
 #[cycle(printing)]
 fn write_exprs(out: &mut String, exprs: &[Expr<'_>]) -> Result<(), AllocError> {
-    let mut before = "";
+    let mut is_first = true;
     for expr in exprs {
-        out.push_str(before)?;
+        if !is_first {
+            out.push_str(", ")?;
+        }
         write_expr(out, expr)?;
-        before = ", ";
+        is_first = false;
     }
     Ok(())
 }
@@ -105,9 +107,9 @@ fn write_exprs(out: &mut String, exprs: &[Expr<'_>]) -> Result<(), AllocError> {
 /// Template arguments; a type has the word `type` before it.
 #[cycle(printing)]
 fn write_arguments(out: &mut String, arguments: &[TemplateArgument<'_>]) -> Result<(), AllocError> {
-    let mut before = "<";
+    let mut is_first = true;
     for argument in arguments {
-        out.push_str(before)?;
+        out.push_str(if is_first { "<" } else { ", " })?;
         match argument {
             TemplateArgument::Type(syn) => {
                 out.push_str("type ")?;
@@ -115,7 +117,7 @@ fn write_arguments(out: &mut String, arguments: &[TemplateArgument<'_>]) -> Resu
             }
             TemplateArgument::Value(expr) => write_expr(out, expr)?,
         }
-        before = ", ";
+        is_first = false;
     }
     out.push_str(">")
 }
@@ -166,21 +168,6 @@ fn write_within(
     out.push_str(before)?;
     write_expr(out, expr)?;
     out.push_str(behind)
-}
-
-/// An operator between two operands.
-#[cycle(printing)]
-fn write_between(
-    out: &mut String,
-    left: &Expr<'_>,
-    operator: &str,
-    right: &Expr<'_>,
-) -> Result<(), AllocError> {
-    out.push_str("(")?;
-    write_expr(out, left)?;
-    write!(out, " {operator} ")?;
-    write_expr(out, right)?;
-    out.push_str(")")
 }
 
 /// What begins with a type or has one within.
@@ -251,7 +238,11 @@ fn write_operation(out: &mut String, expr: &Expr<'_>) -> Result<(), AllocError> 
             left,
             right,
             ..
-        } => write_between(out, left, binary_text(*operator), right),
+        } => {
+            write_within(out, "(", left, " ")?;
+            out.push_str(binary_text(*operator))?;
+            write_within(out, " ", right, ")")
+        }
         Expr::Conditional {
             condition,
             then,
@@ -267,7 +258,11 @@ fn write_operation(out: &mut String, expr: &Expr<'_>) -> Result<(), AllocError> 
             target,
             value,
             ..
-        } => { write_between(out, target, assignment_text(*operator), value) }
+        } => {
+            write_within(out, "(", target, " ")?;
+            out.push_str(assignment_text(*operator))?;
+            write_within(out, " ", value, ")")
+        }
         _ => write_typed(out, expr),
     }
 }
