@@ -3,3 +3,7 @@ pub mod NumbersBehind
 pub mod NumbersStatements
 pub mod NumbersDeclarations
 pub mod NodeLaws
+pub mod RequiresLevels
+pub mod RequiresAlone
+pub mod RequiresNumbers
+pub mod RequiresLaws

@@ -6,13 +6,14 @@ use Rattle.cx_tree.specs.Trees.{Mark}
 use Rattle.cx_tree.specs.Declarations.{DeclTree}
 use Rattle.cx_grammar.specs.Pieces.{Piece, First, Second, All, as_piece, is_double, halves, pieces}
 use Rattle.cx_grammar.specs.Names.{Context}
+use Rattle.cx_grammar.specs.Types.{Numbered}
 use Rattle.cx_grammar.specs.Statements.{Named, stmt}
 use Rattle.cx_grammar.specs.Declarations.{decl, unit, unit_levels}
-use Rattle.cx_grammar.specs.Laws.{Levelled, IsTree}
+use Rattle.cx_grammar.specs.Laws.{Levelled, IsTree, NumberLaws}
 use Rattle.cx_grammar.proofs.Counts.{Yields, Counted}
 use Rattle.cx_grammar_laws.specs.Nodes.{stmt_nodes, decl_nodes}
 use Rattle.cx_grammar_laws.specs.NodeLaws.{NamedNumberLaws, UnitNumberLaws}
-use Rattle.cx_grammar_laws.proofs.NumbersStatements.{OfNamed, stmt-Yields}
+use Rattle.cx_grammar_laws.proofs.NumbersStatements.{Of, OfNamed, stmt-Yields}
 use Rattle.cx_grammar_laws.proofs.NumbersDeclarations.{OfUnit, decl-Yields, unit-Yields, unit_levels-Counts}
 
 two_at_most : (b : Bool) (t : TokenTree) → length (if b then as_piece t First ∷ as_piece t Second ∷ [] else as_piece t All ∷ []) ≤ 2
@@ -36,6 +37,18 @@ module _ {A : Type 0} (nodes : A → List Mark) (n : ℕ) (p : Levelled (Named A
     next = λ ts x m names t. (counted ts x m names t).next;
     for_pieces = λ ts x m names t. let g = counted ts x m names t in omega (arith, g.next, g.few);
     for_tokens = λ ts x m names t. let g = counted (pieces ts) x m names t in omega (arith, g.next, g.few, length-pieces ts);
+  }
+
+module _ {A : Type 0} (nodes : A → List Mark) (n : ℕ) (p : Levelled (Numbered A)) (h : (level : ℕ) → Yields (p level) 0 (Of nodes n 0)) where
+  unnamed_counted : (ts : List Piece) (x : A) (m : ℕ) → IsTree p ts (x, m) → Counted n 0 (nodes x) m (0 + length ts)
+  unnamed_counted ts x m t = (h t.1.level).yields t.0 ts [] (x, m) t.1.whole
+
+  pub number_laws : NumberLaws nodes n p
+  number_laws = record {
+    numbered = λ ts x m t. (unnamed_counted ts x m t).numbers;
+    next = λ ts x m t. (unnamed_counted ts x m t).next;
+    for_pieces = λ ts x m t. let g = unnamed_counted ts x m t in omega (arith, g.next, g.few);
+    for_tokens = λ ts x m t. let g = unnamed_counted (pieces ts) x m t in omega (arith, g.next, g.few, length-pieces ts);
   }
 
 module _ (c : Context) (n : ℕ) where

@@ -74,7 +74,7 @@ module _ {b : Below} (k : BelowCounts b) where
   void_parameters-Yields autos c n s j up = take (λ t. when-Yields _ (give-Yields (none (omega arith)))
       (then-Yields (type_behind-Yields c t.token.at _ (VoidTree, n) {s = j} (λ at. leaf (omega arith))) (λ of l g. then-Yields (typed_parameter-Yields c of (ahead g up)) (λ first i g'. parameters_behind-Yields autos c first g'))))
 
-  parameters-Yields : (autos : Bool) (c : Context) (n s j : ℕ) → s < j → Yields (parameters autos b c n) j (OfNamed (flat_map parameter_nodes) n s)
+  pub parameters-Yields : (autos : Bool) (c : Context) (n s j : ℕ) → s < j → Yields (parameters autos b c n) j (OfNamed (flat_map parameter_nodes) n s)
   unfolding parameters
   parameters-Yields autos c n s j up = when-Yields _ (give-Yields (none (omega arith))) (when-Yields _ (void_parameters-Yields autos c n s j up)
       (then-Yields (parameter-Yields autos c n s j up) (λ first i g. parameters_behind-Yields autos c first g)))

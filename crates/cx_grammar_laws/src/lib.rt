@@ -2,5 +2,10 @@
 #![tactic(auto)]
 
 mod numbers;
+mod requirements;
 
 pub use numbers::{numbers_of_declarations, numbers_of_statements, numbers_of_units};
+pub use requirements::{
+    laws_of_requirements, laws_of_requires_expressions, numbers_of_requirements,
+    numbers_of_requires_expressions,
+};
