@@ -7,3 +7,7 @@ pub mod RequiresLevels
 pub mod RequiresAlone
 pub mod RequiresNumbers
 pub mod RequiresLaws
+pub mod Starting
+pub mod Relations
+pub mod PrintedParts
+pub mod PrintedRequires
