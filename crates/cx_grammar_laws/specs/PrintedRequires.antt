@@ -34,18 +34,19 @@ any_number step x = record {
   front = λ limit ts. (n : ℕ) × (turns n step x).front limit ts;
 }
 
--- ---- req = "typename" qual ";" | "typename" CLASST "<" targs ">" ";" | "requires" lor ";"
+-- ---- req = "typename" qual ";" | "typename" Class "<" targs ">" ";" | "requires" lor ";"
 --          | "{" expr "}" [ "->" cref ] ";" | expr ";"
--- where no expr begins with "typename" or "requires"
+-- where Class is the name of a class template, cref a concept with arguments or without, and no expr begins with
+-- "typename" or "requires".
 
--- qual = head "::" Name { "::" Name }
+-- qual = head "::" Name { "::" Name }, where a head is the name of a type or Class "<" targs ">"
 abbrev pub qual : Below → Context → ℕ → Relation (Numbered (TypeTree × List (List ℕ)))
 qual b c n = do
   head ← trees_of (head_core b c n)
   names ← trees_of (qualified_names c)
   trees_of (give (((as_type head).0, names), (as_type head).1))
 
--- CLASST "<" targs ">"
+-- Class "<" targs ">"
 abbrev pub class_alone : Below → Context → ℕ → Relation (Numbered (TypeTree × List (List ℕ)))
 class_alone b c n = do
   head ← trees_of (class_core b c n)

@@ -46,13 +46,14 @@ requires_nodes r = flat_map parameter_nodes r.parameters ++ flat_map requirement
 
 -- ---- requirements. Each is a construct: its tokens stand within it.
 
--- an expression, `;`
+-- an expression, `;` ([expr.prim.req.simple])
 unfoldable pub simple_requirement : Below → Context → ℕ → Production (Numbered RequirementTree)
 simple_requirement b c n = do
   e ← b.expr (deeper c) n
   semicolon ← token (c.load + 1) (punct (codes ";"))
   give (SimpleRequirement (numbered e.1 (place_of e.0)) e.0, e.1 + 1)
 
+-- names behind `::`, or none
 unfoldable pub maybe_names : Context → Production (List (List ℕ))
 maybe_names c = when (punct (codes "::")) (qualified_names c) (give [])
 
@@ -68,7 +69,7 @@ required_type b c n = when (class_name c)
       names ← qualified_names c
       give (((as_type k).0, names), (as_type k).1))
 
--- `typename`, a type, `;`
+-- `typename`, a type, `;` ([expr.prim.req.type]). The type is no construct of its own there.
 unfoldable pub type_requirement : Below → Context → ℕ → Production (Numbered RequirementTree)
 type_requirement b c n = do
   word' ← token (c.load + 1) (word (codes "typename"))
@@ -85,7 +86,7 @@ maybe_constraint b c n = when (punct (codes "->"))
       give (Some k.0, k.1))
     (give (None, n))
 
--- an expression in braces, with a constraint of its type or without, `;`
+-- an expression in braces, with a constraint of its type or without, `;` ([expr.prim.req.compound])
 unfoldable pub compound_requirement : Below → Context → ℕ → Production (Numbered RequirementTree)
 compound_requirement b c n = do
   open_brace ← token (c.load + 1 + 1) (punct (codes "{"))
@@ -95,7 +96,7 @@ compound_requirement b c n = do
   semicolon ← token (c.load + 1) (punct (codes ";"))
   give (CompoundRequirement (numbered k.1 open_brace.token.at) e.0 k.0, k.1 + 1)
 
--- `requires`, binary operators of all levels with their operands, `;`
+-- `requires`, binary operators of all levels with their operands, `;` ([expr.prim.req.nested])
 unfoldable pub nested_requirement : Below → Context → ℕ → Production (Numbered RequirementTree)
 nested_requirement b c n = do
   word' ← token (c.load + 1) (word (codes "requires"))
