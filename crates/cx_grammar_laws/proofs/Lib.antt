@@ -11,3 +11,7 @@ pub mod Starting
 pub mod Relations
 pub mod PrintedParts
 pub mod PrintedRequires
+pub mod Cases
+pub mod Tokens
+pub mod Firsts
+pub mod Arguments

@@ -2,3 +2,4 @@ pub mod Nodes
 pub mod NodeLaws
 pub mod Requires
 pub mod PrintedRequires
+pub mod Printed

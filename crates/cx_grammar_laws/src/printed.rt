@@ -1,13 +1,20 @@
-//! Requires-expressions as they are printed: the productions have the trees and beginnings of the text of the grammar.
-//! Each law is the contract of a function that does nothing.
+//! The grammar as it is printed: productions that choose by the first tokens have the trees and beginnings of the
+//! alternatives that the text of the grammar has. Each law is the contract of a function that does nothing.
 
-ghost use Rattle.std.specs.Prelude.{ℕ};
+ghost use Rattle.std.specs.Prelude.{ℕ, suc};
 ghost use Rattle.cx_grammar.specs.Names.{Context};
-ghost use Rattle.cx_grammar.specs.Expressions.{levels};
+ghost use Rattle.cx_grammar.specs.Expressions.{argument, levels, goes_on};
 ghost use Rattle.cx_grammar.specs.Declarations.{no_piece};
 ghost use Rattle.cx_grammar.specs.Printed.{IsAsPrinted};
 ghost use Rattle.cx_grammar_laws.specs.Requires.{requirement, requires_expr};
+ghost use Rattle.cx_grammar_laws.specs.Printed.{printed_argument};
 ghost use Rattle.cx_grammar_laws.specs.PrintedRequires.{printed_requirement, printed_requires_expr};
+
+/// Template arguments ([temp.arg]): a type or an expression, where what would go on behind a type, `{` or `::`, does not
+/// stand behind it. A scalar is read where its type is within one more construct, so there is one level at least.
+pub fn arguments_as_printed()
+    ensures printed { (c : Context) (n depth : ℕ) → IsAsPrinted (argument (levels (suc depth)) c n) goes_on (printed_argument (levels (suc depth)) c n) }
+{}
 
 /// Requirements ([expr.prim.req.simple] to [expr.prim.req.nested]): no expression begins one with `typename` or
 /// `requires`.
