@@ -1,9 +1,11 @@
 -- Productions that are the same where their tokens begin in some way, and alternatives that a first token tells apart.
-use Rattle.std.proofs.Common.{◌≡◌, ◌⊎◌, inl, inr, ℕ, Bool, true, false, ◌||◌, List, [], ◌∷◌, ◌++◌, refl, sym, ap, ◌∙◌, subst, append_assoc, true≢false}
+use Rattle.std.proofs.Common.{◌≡◌, ◌⊎◌, inl, inr, ℕ, zero, suc, Bool, true, false, ◌||◌, List, [], ◌∷◌, ◌++◌, refl, sym, ap, ◌∙◌, subst, append_assoc, append-nil, true≢false}
 use Rattle.cx_grammar.specs.Pieces.{Piece}
-use Rattle.cx_grammar.specs.Production.{Production, give, ◌>>=◌, token, when, given, begins, Chosen}
-use Rattle.cx_grammar.specs.Printed.{Relation, trees_of, or, IsAsPrinted}
-use Rattle.cx_grammar.proofs.Printed.{right_whole, left_whole, right_front, left_front, Starts, when_first, when_second, first_front, second_front, begins_none, no_other}
+use Rattle.cx_grammar.specs.Production.{Production, give, ◌>>=◌, token, when, given, times, repeat, begins, Chosen}
+use Rattle.cx_grammar.specs.Printed as relation
+use Rattle.cx_grammar.specs.Printed.{Relation, trees_of, or, optional, IsAsPrinted}
+use Rattle.cx_grammar.proofs.Alone.{Filled}
+use Rattle.cx_grammar.proofs.Printed.{right_whole, left_whole, right_front, left_front, Starts, when_cases, when_first, when_second, first_front, second_front, begins_none, no_other}
 
 -- ---- the same where the tokens begin in some way
 
@@ -59,23 +61,28 @@ module _ {A B : Type 0} {W : Where} {p r : Production A} (a : Alike W p r) (f : 
   pub first-Alike : Alike W (p >>= f) (r >>= f)
   first-Alike = record { to = to_first; back = back_first; begun = begun_first; begun_back = begun_back_first }
 
-module _ {A B : Type 0} (W : Where) (p : Production A) {f g : A → Production B} (a : (x : A) → Alike Any (f x) (g x)) where
+-- what is known of each value of the first
+module _ {A B : Type 0} (W : Where) (p : Production A) {f g : A → Production B} (K : A → Type 0)
+    (known : (l : ℕ) (ts behind : List Piece) (x : A) → p.whole l ts behind x → K x) (a : (x : A) → K x → Alike Any (f x) (g x)) where
   to_second : (l : ℕ) (ts behind : List Piece) (y : B) → W (ts ++ behind) → (p >>= f).whole l ts behind y → (p >>= g).whole l ts behind y
-  to_second l ts behind y h (x, us, vs, e, w, v) = (x, us, vs, e, w, (a x).to l vs behind y tt v)
+  to_second l ts behind y h (x, us, vs, e, w, v) = (x, us, vs, e, w, (a x (known l us (vs ++ behind) x w)).to l vs behind y tt v)
 
   back_second : (l : ℕ) (ts behind : List Piece) (y : B) → W (ts ++ behind) → (p >>= g).whole l ts behind y → (p >>= f).whole l ts behind y
-  back_second l ts behind y h (x, us, vs, e, w, v) = (x, us, vs, e, w, (a x).back l vs behind y tt v)
+  back_second l ts behind y h (x, us, vs, e, w, v) = (x, us, vs, e, w, (a x (known l us (vs ++ behind) x w)).back l vs behind y tt v)
 
   begun_second : (l : ℕ) (ts : List Piece) → W ts → (p >>= f).front l ts → (p >>= g).front l ts
   begun_second l ts h (inl k) = inl k
-  begun_second l ts h (inr (x, us, vs, e, w, k)) = inr (x, us, vs, e, w, (a x).begun l vs tt k)
+  begun_second l ts h (inr (x, us, vs, e, w, k)) = inr (x, us, vs, e, w, (a x (known l us vs x w)).begun l vs tt k)
 
   begun_back_second : (l : ℕ) (ts : List Piece) → W ts → (p >>= g).front l ts → (p >>= f).front l ts
   begun_back_second l ts h (inl k) = inl k
-  begun_back_second l ts h (inr (x, us, vs, e, w, k)) = inr (x, us, vs, e, w, (a x).begun_back l vs tt k)
+  begun_back_second l ts h (inr (x, us, vs, e, w, k)) = inr (x, us, vs, e, w, (a x (known l us vs x w)).begun_back l vs tt k)
 
-  pub second-Alike : Alike W (p >>= f) (p >>= g)
-  second-Alike = record { to = to_second; back = back_second; begun = begun_second; begun_back = begun_back_second }
+  pub known-Alike : Alike W (p >>= f) (p >>= g)
+  known-Alike = record { to = to_second; back = back_second; begun = begun_second; begun_back = begun_back_second }
+
+pub second-Alike : {A B : Type 0} (W : Where) (p : Production A) {f g : A → Production B} → ((x : A) → Alike Any (f x) (g x)) → Alike W (p >>= f) (p >>= g)
+second-Alike W p a = known-Alike W p (λ x. Unit {0}) (λ l ts behind x w. tt) (λ x k. a x)
 
 pub regrouped : {A B C : Type 0} (W : Where) (p : Production A) (f : A → Production B) (g : B → Production C) → Alike W ((p >>= f) >>= g) (p >>= (λ x. f x >>= g))
 regrouped W p f g = record {
@@ -122,6 +129,110 @@ module _ {A : Type 0} {W : Where} (q : Piece → Bool) (a b : Production A) wher
     begun = λ l ts k f. subst (λ (c : Bool). Chosen c (a.front l ts) (b.front l ts)) (h ts k) f;
     begun_back = λ l ts k f. second_front q a b l ts (h ts k) f;
   }
+
+module _ {A : Type 0} {W : Where} (q : Piece → Bool) {a a' b b' : Production A} (ha : Alike W a a') (hb : Alike W b b') where
+  pub when-Alike : Alike W (when q a b) (when q a' b')
+  when-Alike = record {
+    to = λ l ts behind x h w. to (begins q (ts ++ behind)) l ts behind x h w;
+    back = λ l ts behind x h w. back (begins q (ts ++ behind)) l ts behind x h w;
+    begun = λ l ts h k. begun (begins q ts) l ts h k;
+    begun_back = λ l ts h k. begun_back (begins q ts) l ts h k;
+  }
+    where
+      to : (c : Bool) (l : ℕ) (ts behind : List Piece) (x : A) → W (ts ++ behind) → Chosen c (a.whole l ts behind x) (b.whole l ts behind x) → Chosen c (a'.whole l ts behind x) (b'.whole l ts behind x)
+      to true l ts behind x h w = ha.to l ts behind x h w
+      to false l ts behind x h w = hb.to l ts behind x h w
+
+      back : (c : Bool) (l : ℕ) (ts behind : List Piece) (x : A) → W (ts ++ behind) → Chosen c (a'.whole l ts behind x) (b'.whole l ts behind x) → Chosen c (a.whole l ts behind x) (b.whole l ts behind x)
+      back true l ts behind x h w = ha.back l ts behind x h w
+      back false l ts behind x h w = hb.back l ts behind x h w
+
+      begun : (c : Bool) (l : ℕ) (ts : List Piece) → W ts → Chosen c (a.front l ts) (b.front l ts) → Chosen c (a'.front l ts) (b'.front l ts)
+      begun true l ts h k = ha.begun l ts h k
+      begun false l ts h k = hb.begun l ts h k
+
+      begun_back : (c : Bool) (l : ℕ) (ts : List Piece) → W ts → Chosen c (a'.front l ts) (b'.front l ts) → Chosen c (a.front l ts) (b.front l ts)
+      begun_back true l ts h k = ha.begun_back l ts h k
+      begun_back false l ts h k = hb.begun_back l ts h k
+
+-- what stands behind both of two productions stands behind each
+module _ {A B : Type 0} (W : Where) (q : Piece → Bool) (a b : Production A) (f : A → Production B) where
+  moved : (ts us vs behind : List Piece) → ts ≡ us ++ vs → begins q (ts ++ behind) ≡ begins q (us ++ (vs ++ behind))
+  moved ts us vs behind e = ap (λ (s : List Piece). begins q s) (ap (λ (s : List Piece). s ++ behind) e ∙ append_assoc us vs behind)
+
+  to_shared : (l : ℕ) (ts behind : List Piece) (y : B) → (when q a b >>= f).whole l ts behind y → (when q (a >>= f) (b >>= f)).whole l ts behind y
+  to_shared l ts behind y (x, us, vs, e, w, v) =
+      subst (λ (c : Bool). Chosen c ((a >>= f).whole l ts behind y) ((b >>= f).whole l ts behind y)) (sym (moved ts us vs behind e)) (go (begins q (us ++ (vs ++ behind))) w)
+    where
+      go : (c : Bool) → Chosen c (a.whole l us (vs ++ behind) x) (b.whole l us (vs ++ behind) x) → Chosen c ((a >>= f).whole l ts behind y) ((b >>= f).whole l ts behind y)
+      go true w = (x, us, vs, e, w, v)
+      go false w = (x, us, vs, e, w, v)
+
+  back_shared : (l : ℕ) (ts behind : List Piece) (y : B) (c : Bool) → begins q (ts ++ behind) ≡ c → Chosen c ((a >>= f).whole l ts behind y) ((b >>= f).whole l ts behind y) → (when q a b >>= f).whole l ts behind y
+  back_shared l ts behind y true d (x, us, vs, e, w, v) = (x, us, vs, e, when_first q a b l us (vs ++ behind) x (sym (moved ts us vs behind e) ∙ d) w, v)
+  back_shared l ts behind y false d (x, us, vs, e, w, v) = (x, us, vs, e, when_second q a b l us (vs ++ behind) x (sym (moved ts us vs behind e) ∙ d) w, v)
+
+  begun_shared : (l : ℕ) (ts : List Piece) → (when q a b >>= f).front l ts → (when q (a >>= f) (b >>= f)).front l ts
+  begun_shared l ts (inl k) = go (begins q ts) k
+    where
+      go : (c : Bool) → Chosen c (a.front l ts) (b.front l ts) → Chosen c ((a >>= f).front l ts) ((b >>= f).front l ts)
+      go true k = inl k
+      go false k = inl k
+  begun_shared l ts (inr (x, us, vs, e, w, k)) =
+      subst (λ (c : Bool). Chosen c ((a >>= f).front l ts) ((b >>= f).front l ts)) (sym (ap (λ (s : List Piece). begins q s) e)) (go (begins q (us ++ vs)) w)
+    where
+      go : (c : Bool) → Chosen c (a.whole l us vs x) (b.whole l us vs x) → Chosen c ((a >>= f).front l ts) ((b >>= f).front l ts)
+      go true w = inr (x, us, vs, e, w, k)
+      go false w = inr (x, us, vs, e, w, k)
+
+  begun_back_shared : (l : ℕ) (ts : List Piece) (c : Bool) → begins q ts ≡ c → Chosen c ((a >>= f).front l ts) ((b >>= f).front l ts) → (when q a b >>= f).front l ts
+  begun_back_shared l ts true d (inl k) = inl (first_front q a b l ts d k)
+  begun_back_shared l ts true d (inr (x, us, vs, e, w, k)) = inr (x, us, vs, e, when_first q a b l us vs x (sym (ap (λ (s : List Piece). begins q s) e) ∙ d) w, k)
+  begun_back_shared l ts false d (inl k) = inl (second_front q a b l ts d k)
+  begun_back_shared l ts false d (inr (x, us, vs, e, w, k)) = inr (x, us, vs, e, when_second q a b l us vs x (sym (ap (λ (s : List Piece). begins q s) e) ∙ d) w, k)
+
+  pub shared : Alike W (when q a b >>= f) (when q (a >>= f) (b >>= f))
+  shared = record {
+    to = λ l ts behind y h w. to_shared l ts behind y w;
+    back = λ l ts behind y h w. back_shared l ts behind y (begins q (ts ++ behind)) refl w;
+    begun = λ l ts h k. begun_shared l ts k;
+    begun_back = λ l ts h k. begun_back_shared l ts (begins q ts) refl k;
+  }
+
+-- a token of a narrower kind
+pub narrower : (load : ℕ) (q r : Piece → Bool) → ((t : Piece) → q t ≡ true → r t ≡ true) → Alike (First q) (token load r) (token load q)
+unfolding begins
+narrower load q r h = record { to = to; back = λ l ts behind t k w. (w.0, h t w.1, w.2); begun = begun; begun_back = begun_back }
+  where
+    to : (l : ℕ) (ts behind : List Piece) (t : Piece) → First q (ts ++ behind) → (token load r).whole l ts behind t → (token load q).whole l ts behind t
+    to l ts behind t k (e, fits, low) = (e, sym (ap (λ (s : List Piece). begins q (s ++ behind)) e) ∙ k, low)
+
+    begun : (l : ℕ) (ts : List Piece) → First q ts → (token load r).front l ts → (token load q).front l ts
+    begun l ts k (inl e) = inl e
+    begun l ts k (inr (t, e, fits, low)) = inr (t, e, sym (ap (λ (s : List Piece). begins q s) e) ∙ k, low)
+
+    begun_back : (l : ℕ) (ts : List Piece) → First q ts → (token load q).front l ts → (token load r).front l ts
+    begun_back l ts k (inl e) = inl e
+    begun_back l ts k (inr (t, e, fits, low)) = inr (t, e, h t fits, low)
+
+-- values that are one
+pub one_value : {A : Type 0} (W : Where) (x y : A) → x ≡ y → Alike W (give x) (give y)
+one_value W x y e = subst (λ z. Alike W (give x) (give z)) e (alike W (give x))
+
+-- what holds of a value, and of each that a turn of a repetition gives, holds of what the repetition gives
+module _ {A : Type 0} (q : Piece → Bool) (step : A → Production A) (K : A → Type 0) (keeps : (x y : A) (l : ℕ) (ts behind : List Piece) → (step x).whole l ts behind y → K y) where
+  turn_keeps : (x : A) → K x → (l : ℕ) (ts behind : List Piece) (y : A) (more : A → Production A) → ((z : A) → K z → (vs behind' : List Piece) → (more z).whole l vs behind' y → K y) → (step x >>= more).whole l ts behind y ⊎ (give x).whole l ts behind y
+      → K y
+  turn_keeps x k l ts behind y more h (inl (z, us, vs, e, w, v)) = h z (keeps x z l us (vs ++ behind) w) vs behind v
+  turn_keeps x k l ts behind y more h (inr (e, same)) = subst K (sym same) k
+
+  times_keep : (n : ℕ) (x : A) → K x → (l : ℕ) (ts behind : List Piece) (y : A) → (times n q step x).whole l ts behind y → K y
+  times_keep zero x k l ts behind y w = absurd w
+  times_keep (suc n) x k l ts behind y w =
+      turn_keeps x k l ts behind y (times n q step) (λ z h vs behind' v. times_keep n z h l vs behind' y v) (when_cases q (step x >>= times n q step) (give x) l ts behind y w)
+
+  pub repeat_keeps : (x : A) → K x → (l : ℕ) (ts behind : List Piece) (y : A) → (repeat q step x).whole l ts behind y → K y
+  repeat_keeps x k l ts behind y (n, w) = times_keep n x k l ts behind y w
 
 -- ---- the first tokens of productions
 
@@ -176,6 +287,22 @@ module _ (q : Piece → Bool) where
       front l ts (inl k) = hp.beginnings l ts k
       front l ts (inr (x, us, vs, e, w, k)) = parts ts us vs e (hp.trees l us vs x w) ((hf x).beginnings l vs k)
 
+  -- what is behind a tree that is not empty may begin with anything
+  pub filled-Avoids : {A B : Type 0} {p : Production A} (f : A → Production B) → Filled p → Avoids q p → Avoids q (p >>= f)
+  unfolding begins
+  filled-Avoids {A} {B} {p} f fp hp = record { trees = whole; beginnings = front }
+    where
+      longer : (l : ℕ) (us vs behind : List Piece) (x : A) → p.whole l us behind x → begins q us ≡ false → begins q (us ++ vs) ≡ false
+      longer l [] vs behind x w e = absurd (fp.filled l behind x w)
+      longer l (u ∷ us) vs behind x w e = e
+
+      whole : (l : ℕ) (ts behind : List Piece) (y : B) → (p >>= f).whole l ts behind y → begins q ts ≡ false
+      whole l ts behind y (x, us, vs, e, w, v) = ap (λ (s : List Piece). begins q s) e ∙ longer l us vs (vs ++ behind) x w (hp.trees l us (vs ++ behind) x w)
+
+      front : (l : ℕ) (ts : List Piece) → (p >>= f).front l ts → begins q ts ≡ false
+      front l ts (inl k) = hp.beginnings l ts k
+      front l ts (inr (x, us, vs, e, w, k)) = ap (λ (s : List Piece). begins q s) e ∙ longer l us vs vs x w (hp.trees l us vs x w)
+
   pub when-Avoids : {A : Type 0} (r : Piece → Bool) {a b : Production A} → Avoids q a → Avoids q b → Avoids q (when r a b)
   when-Avoids {A} r {a} {b} ha hb = record { trees = λ l ts behind x w. whole (begins r (ts ++ behind)) l ts behind x w; beginnings = λ l ts k. front (begins r ts) l ts k }
     where
@@ -206,6 +333,11 @@ begins_right q r (t ∷ ts) e = go (q t)
     go : (z : Bool) → (z || r t) ≡ true
     go true = refl
     go false = e
+
+pub begins_neither : (q r : Piece → Bool) (ts : List Piece) → begins q ts ≡ false → begins r ts ≡ false → begins (λ t. q t || r t) ts ≡ false
+unfolding begins
+begins_neither q r [] e d = refl
+begins_neither q r (t ∷ ts) e d = ap (λ (z : Bool). z || r t) e ∙ d
 
 -- where one of two productions is chosen, what begins the one or the other begins it
 module _ {A : Type 0} (s q r : Piece → Bool) {a b : Production A} where
@@ -285,40 +417,47 @@ module _ {A : Type 0} {W : Where} {goes_on : Piece → Bool} (q : Piece → Bool
       begun_back l ts h true e k = ha.begun_back l ts e k
       begun_back l ts h false e k = hb.begun_back l ts (h, e) k
 
--- an alternative that has no tree there, and no beginning but those of another
-pub record Idle {A : Type 0} (W : Where) (p : Production A) (other : Relation A) : Type 0 where
-  pub no_tree : (l : ℕ) (ts behind : List Piece) (x : A) → W (ts ++ behind) → p.whole l ts behind x → ⊥
-  pub no_beginning : (l : ℕ) (ts : List Piece) → W ts → p.front l ts → other.front l ts
+pub printed_alike : {A : Type 0} {W : Where} (goes_on : Piece → Bool) {p s : Production A} → Alike W p s → PrintedWhere W goes_on p (trees_of s)
+printed_alike goes_on a = record { to = λ l ts behind x h n w. a.to l ts behind x h w; back = λ l ts behind x h n w. a.back l ts behind x h w; begun = a.begun; begun_back = a.begun_back }
 
-pub starts-Idle : {A : Type 0} {W : Where} (q : Piece → Bool) {p : Production A} {other : Relation A} → Starts q p → ((ts : List Piece) → W ts → begins q ts ≡ false) → ((l : ℕ) → other.front l []) → Idle W p other
+-- an alternative that has no tree there, and no beginning but those of another
+pub record Idle {A : Type 0} (W : Where) (r other : Relation A) : Type 0 where
+  pub no_tree : (l : ℕ) (ts behind : List Piece) (x : A) → W (ts ++ behind) → r.whole l ts behind x → ⊥
+  pub no_beginning : (l : ℕ) (ts : List Piece) → W ts → r.front l ts → other.front l ts
+
+pub starts-Idle : {A : Type 0} {W : Where} (q : Piece → Bool) {p : Production A} {other : Relation A} → Starts q p → ((ts : List Piece) → W ts → begins q ts ≡ false) → ((l : ℕ) → other.front l []) → Idle W (trees_of p) other
 starts-Idle {A} {W} q {p} {other} s h starts = record { no_tree = λ l ts behind x k w. true≢false (sym (s.begins_so l ts behind x w) ∙ h (ts ++ behind) k); no_beginning = λ l ts k f. go l ts k (s.begun_so l ts f) }
   where
     go : (l : ℕ) (ts : List Piece) → W ts → (ts ≡ []) ⊎ (begins q ts ≡ true) → other.front l ts
     go l ts k (inl e) = subst (λ (z : List Piece). other.front l z) (sym e) (starts l)
     go l ts k (inr e) = absurd (true≢false (sym e ∙ h ts k))
 
-module _ {A : Type 0} {W : Where} (goes_on : Piece → Bool) {p s t : Production A} where
-  pub only_first : Alike W p s → Idle W t (trees_of s) → PrintedWhere W goes_on p (or (trees_of s) (trees_of t))
-  only_first a i = record { to = λ l ts behind x h n w. inl (a.to l ts behind x h w); back = back; begun = λ l ts h k. inl (a.begun l ts h k); begun_back = begun_back }
+module _ {A : Type 0} {W : Where} {goes_on : Piece → Bool} {p : Production A} {s t : Relation A} where
+  pub only_first : PrintedWhere W goes_on p s → Idle W t s → PrintedWhere W goes_on p (or s t)
+  only_first a i = record { to = λ l ts behind x h n w. inl (a.to l ts behind x h n w); back = back; begun = λ l ts h k. inl (a.begun l ts h k); begun_back = begun_back }
     where
       back : (l : ℕ) (ts behind : List Piece) (x : A) → W (ts ++ behind) → begins goes_on behind ≡ false → s.whole l ts behind x ⊎ t.whole l ts behind x → p.whole l ts behind x
-      back l ts behind x h n (inl w) = a.back l ts behind x h w
+      back l ts behind x h n (inl w) = a.back l ts behind x h n w
       back l ts behind x h n (inr w) = absurd (i.no_tree l ts behind x h w)
 
       begun_back : (l : ℕ) (ts : List Piece) → W ts → s.front l ts ⊎ t.front l ts → p.front l ts
       begun_back l ts h (inl k) = a.begun_back l ts h k
       begun_back l ts h (inr k) = a.begun_back l ts h (i.no_beginning l ts h k)
 
-  pub only_second : Alike W p t → Idle W s (trees_of t) → PrintedWhere W goes_on p (or (trees_of s) (trees_of t))
-  only_second a i = record { to = λ l ts behind x h n w. inr (a.to l ts behind x h w); back = back; begun = λ l ts h k. inr (a.begun l ts h k); begun_back = begun_back }
+  pub exchanged : PrintedWhere W goes_on p (or s t) → PrintedWhere W goes_on p (or t s)
+  exchanged a = record {
+    to = λ l ts behind x h n w. turn (a.to l ts behind x h n w);
+    back = λ l ts behind x h n w. a.back l ts behind x h n (turn w);
+    begun = λ l ts h k. turn (a.begun l ts h k);
+    begun_back = λ l ts h k. a.begun_back l ts h (turn k);
+  }
     where
-      back : (l : ℕ) (ts behind : List Piece) (x : A) → W (ts ++ behind) → begins goes_on behind ≡ false → s.whole l ts behind x ⊎ t.whole l ts behind x → p.whole l ts behind x
-      back l ts behind x h n (inl w) = absurd (i.no_tree l ts behind x h w)
-      back l ts behind x h n (inr w) = a.back l ts behind x h w
+      turn : {P Q : Type 0} → P ⊎ Q → Q ⊎ P
+      turn (inl w) = inr w
+      turn (inr w) = inl w
 
-      begun_back : (l : ℕ) (ts : List Piece) → W ts → s.front l ts ⊎ t.front l ts → p.front l ts
-      begun_back l ts h (inl k) = a.begun_back l ts h (i.no_beginning l ts h k)
-      begun_back l ts h (inr k) = a.begun_back l ts h k
+pub only_second : {A : Type 0} {W : Where} {goes_on : Piece → Bool} {p : Production A} {s t : Relation A} → PrintedWhere W goes_on p t → Idle W s t → PrintedWhere W goes_on p (or s t)
+only_second a i = exchanged (only_first a i)
 
 -- two alternatives that are printed otherwise
 pub alternatives : {A : Type 0} {W : Where} {goes_on : Piece → Bool} {p s s' t t' : Production A} → Alike W s s' → Alike W t t' → PrintedWhere W goes_on p (or (trees_of s') (trees_of t')) → PrintedWhere W goes_on p (or (trees_of s) (trees_of t))
@@ -345,10 +484,26 @@ alternatives {A} {W} {goes_on} {p} {s} {s'} {t} {t'} a b h = record {
     begun_back l ts k (inl f) = inl (a.begun l ts k f)
     begun_back l ts k (inr f) = inr (b.begun l ts k f)
 
+-- neither the first piece nor the next one is of a kind, where what goes on does not stand behind the pieces
+pub record Apart {A : Type 0} (goes_on q : Piece → Bool) (p : Production A) : Type 0 where
+  pub trees : (l : ℕ) (ts behind : List Piece) (x : A) → begins goes_on behind ≡ false → p.whole l ts behind x → begins q (ts ++ behind) ≡ false
+  pub beginnings : (l : ℕ) (ts : List Piece) → p.front l ts → begins q ts ≡ false
+
+pub avoids-Apart : {A : Type 0} {goes_on q : Piece → Bool} {p : Production A} → ((ts : List Piece) → begins goes_on ts ≡ false → begins q ts ≡ false) → Avoids q p → Apart goes_on q p
+avoids-Apart {q} h a = record { trees = λ l ts behind x n w. avoided_behind q ts behind (a.trees l ts behind x w) (h behind n); beginnings = a.beginnings }
+
+-- a tree that is not empty
+pub filled-Apart : {A : Type 0} {goes_on q : Piece → Bool} {p : Production A} → Filled p → Avoids q p → Apart goes_on q p
+unfolding begins
+filled-Apart {A} {goes_on} {q} {p} f a = record { trees = λ l ts behind x n w. go l ts behind x w (a.trees l ts behind x w); beginnings = a.beginnings }
+  where
+    go : (l : ℕ) (ts behind : List Piece) (x : A) → p.whole l ts behind x → begins q ts ≡ false → begins q (ts ++ behind) ≡ false
+    go l [] behind x w e = absurd (f.filled l behind x w)
+    go l (t ∷ ts) behind x w e = e
+
 -- Behind a production the next token tells two apart: one begins with tokens of a kind, the other never does.
 module _ {A B : Type 0} (W : Where) (goes_on q : Piece → Bool) (p : Production A) {first second : A → Production B}
-    (not_behind : (ts : List Piece) → begins goes_on ts ≡ false → begins q ts ≡ false)
-    (ha : (x : A) → Starts q (first x)) (hb : (x : A) → Avoids q (second x)) (starts : (x : A) (l : ℕ) → (second x).front l []) where
+    (ha : (x : A) → Starts q (first x)) (hb : (x : A) → Apart goes_on q (second x)) (starts : (x : A) (l : ℕ) → (second x).front l []) where
   abbrev told : A → Production B
   told x = when q (first x) (second x)
 
@@ -361,7 +516,7 @@ module _ {A B : Type 0} (W : Where) (goes_on q : Piece → Bool) (p : Production
 
   back_told : (l : ℕ) (ts behind : List Piece) (y : B) → begins goes_on behind ≡ false → (p >>= second).whole l ts behind y ⊎ (p >>= first).whole l ts behind y → (p >>= told).whole l ts behind y
   back_told l ts behind y n (inl (x, us, vs, e, w, v)) =
-      (x, us, vs, e, w, when_second q (first x) (second x) l vs behind y (avoided_behind q vs behind ((hb x).trees l vs behind y v) (not_behind behind n)) v)
+      (x, us, vs, e, w, when_second q (first x) (second x) l vs behind y ((hb x).trees l vs behind y n v) v)
   back_told l ts behind y n (inr (x, us, vs, e, w, v)) = (x, us, vs, e, w, when_first q (first x) (second x) l vs behind y ((ha x).begins_so l vs behind y v) v)
 
   begun_told : (l : ℕ) (ts : List Piece) → (p >>= told).front l ts → (p >>= second).front l ts ⊎ (p >>= first).front l ts
@@ -389,3 +544,104 @@ module _ {A B : Type 0} (W : Where) (goes_on q : Piece → Bool) (p : Production
     begun = λ l ts h k. begun_told l ts k;
     begun_back = λ l ts h k. begun_back_told l ts k;
   }
+
+-- ---- relations that are the same
+
+pub record Same {A : Type 0} (r s : Relation A) : Type 0 where
+  pub to : (l : ℕ) (ts behind : List Piece) (x : A) → r.whole l ts behind x → s.whole l ts behind x
+  pub back : (l : ℕ) (ts behind : List Piece) (x : A) → s.whole l ts behind x → r.whole l ts behind x
+  pub begun : (l : ℕ) (ts : List Piece) → r.front l ts → s.front l ts
+  pub begun_back : (l : ℕ) (ts : List Piece) → s.front l ts → r.front l ts
+
+pub printed_same : {A : Type 0} {W : Where} {goes_on : Piece → Bool} {p : Production A} {r s : Relation A} → Same r s → PrintedWhere W goes_on p r → PrintedWhere W goes_on p s
+printed_same e h = record {
+  to = λ l ts behind x k n w. e.to l ts behind x (h.to l ts behind x k n w);
+  back = λ l ts behind x k n w. h.back l ts behind x k n (e.back l ts behind x w);
+  begun = λ l ts k f. e.begun l ts (h.begun l ts k f);
+  begun_back = λ l ts k f. h.begun_back l ts k (e.begun_back l ts f);
+}
+
+module _ {A : Type 0} {r r' s s' : Relation A} (a : Same r r') (b : Same s s') where
+  pub or_same : Same (or r s) (or r' s')
+  or_same = record { to = to; back = back; begun = begun; begun_back = begun_back }
+    where
+      to : (l : ℕ) (ts behind : List Piece) (x : A) → r.whole l ts behind x ⊎ s.whole l ts behind x → r'.whole l ts behind x ⊎ s'.whole l ts behind x
+      to l ts behind x (inl w) = inl (a.to l ts behind x w)
+      to l ts behind x (inr w) = inr (b.to l ts behind x w)
+
+      back : (l : ℕ) (ts behind : List Piece) (x : A) → r'.whole l ts behind x ⊎ s'.whole l ts behind x → r.whole l ts behind x ⊎ s.whole l ts behind x
+      back l ts behind x (inl w) = inl (a.back l ts behind x w)
+      back l ts behind x (inr w) = inr (b.back l ts behind x w)
+
+      begun : (l : ℕ) (ts : List Piece) → r.front l ts ⊎ s.front l ts → r'.front l ts ⊎ s'.front l ts
+      begun l ts (inl k) = inl (a.begun l ts k)
+      begun l ts (inr k) = inr (b.begun l ts k)
+
+      begun_back : (l : ℕ) (ts : List Piece) → r'.front l ts ⊎ s'.front l ts → r.front l ts ⊎ s.front l ts
+      begun_back l ts (inl k) = inl (a.begun_back l ts k)
+      begun_back l ts (inr k) = inr (b.begun_back l ts k)
+
+pub itself : {A : Type 0} (r : Relation A) → Same r r
+itself r = record { to = λ l ts behind x w. w; back = λ l ts behind x w. w; begun = λ l ts k. k; begun_back = λ l ts k. k }
+
+pub or_grouped : {A : Type 0} (r s t : Relation A) → Same (or r (or s t)) (or (or r s) t)
+or_grouped r s t = record { to = λ l ts behind x w. to w; back = λ l ts behind x w. back w; begun = λ l ts k. to k; begun_back = λ l ts k. back k }
+  where
+    to : {P Q R : Type 0} → P ⊎ (Q ⊎ R) → (P ⊎ Q) ⊎ R
+    to (inl w) = inl (inl w)
+    to (inr (inl w)) = inl (inr w)
+    to (inr (inr w)) = inr w
+
+    back : {P Q R : Type 0} → (P ⊎ Q) ⊎ R → P ⊎ (Q ⊎ R)
+    back (inl (inl w)) = inl w
+    back (inl (inr w)) = inr (inl w)
+    back (inr w) = inr (inr w)
+
+pub both_same : {A : Type 0} {r s t : Relation A} → Same r s → Same s t → Same r t
+both_same a b = record {
+  to = λ l ts behind x w. b.to l ts behind x (a.to l ts behind x w);
+  back = λ l ts behind x w. a.back l ts behind x (b.back l ts behind x w);
+  begun = λ l ts k. b.begun l ts (a.begun l ts k);
+  begun_back = λ l ts k. a.begun_back l ts (b.begun_back l ts k);
+}
+
+-- a token that may stand before a production, and a value that tells whether it does
+module _ {B : Type 0} (load : ℕ) (q : Piece → Bool) (f : Bool → Production B) where
+  abbrev with_token : Production B
+  with_token = token load q >>= (λ t. f true)
+
+  abbrev flag : Relation Bool
+  flag = optional (trees_of (token load q >>= (λ t. give true))) false
+
+  abbrev flagged : Relation B
+  flagged = relation.◌>>=◌ flag (λ x. trees_of (f x))
+
+  to_flagged : (l : ℕ) (ts behind : List Piece) (y : B) → with_token.whole l ts behind y ⊎ (f false).whole l ts behind y → flagged.whole l ts behind y
+  to_flagged l ts behind y (inl (t, us, vs, e, w, v)) = (true, us, vs, e, inl (t, us, [], sym (append-nil us), w, (refl, refl)), v)
+  to_flagged l ts behind y (inr v) = (false, [], ts, refl, inr (refl, refl), v)
+
+  one_token : (us us' vs' : List Piece) (t : Piece) → us ≡ us' ++ vs' → us' ≡ t ∷ [] → vs' ≡ [] → us ≡ t ∷ []
+  one_token us us' vs' t e d k = e ∙ ap (λ (s : List Piece). us' ++ s) k ∙ append-nil us' ∙ d
+
+  back_flagged : (l : ℕ) (ts behind : List Piece) (y : B) → flagged.whole l ts behind y → with_token.whole l ts behind y ⊎ (f false).whole l ts behind y
+  back_flagged l ts behind y (x, us, vs, e, inl (t, us', vs', e', (d, fits, low), (k, same)), v) =
+      inl (t, us, vs, e, (one_token us us' vs' t e' d k, fits, low), subst (λ (z : Bool). (f z).whole l vs behind y) same v)
+  back_flagged l ts behind y (x, us, vs, e, inr (d, same), v) =
+      inr (subst (λ (s : List Piece). (f false).whole l s behind y) (sym (e ∙ ap (λ (s : List Piece). s ++ vs) d)) (subst (λ (z : Bool). (f z).whole l vs behind y) same v))
+
+  begun_flagged : (l : ℕ) (ts : List Piece) → with_token.front l ts ⊎ (f false).front l ts → flagged.front l ts
+  begun_flagged l ts (inl (inl k)) = inl (inl (inl k))
+  begun_flagged l ts (inl (inr (t, us, vs, e, w, k))) = inr (true, us, vs, e, inl (t, us, [], sym (append-nil us), w, (refl, refl)), k)
+  begun_flagged l ts (inr k) = inr (false, [], ts, refl, inr (refl, refl), k)
+
+  begun_back_flagged : (l : ℕ) (ts : List Piece) → flagged.front l ts → with_token.front l ts ⊎ (f false).front l ts
+  begun_back_flagged l ts (inl (inl (inl k))) = inl (inl k)
+  begun_back_flagged l ts (inl (inl (inr (t, us, vs, e, (d, fits, low), k)))) = inl (inl (inr (t, one_token ts us vs t e d k, fits, low)))
+  begun_back_flagged l ts (inl (inr e)) = inl (inl (inl e))
+  begun_back_flagged l ts (inr (x, us, vs, e, inl (t, us', vs', e', (d, fits, low), (k, same)), v)) =
+      inl (inr (t, us, vs, e, (one_token us us' vs' t e' d k, fits, low), subst (λ (z : Bool). (f z).front l vs) same v))
+  begun_back_flagged l ts (inr (x, us, vs, e, inr (d, same), v)) =
+      inr (subst (λ (s : List Piece). (f false).front l s) (sym (e ∙ ap (λ (s : List Piece). s ++ vs) d)) (subst (λ (z : Bool). (f z).front l vs) same v))
+
+  pub flagged_same : Same (or (trees_of with_token) (trees_of (f false))) flagged
+  flagged_same = record { to = to_flagged; back = back_flagged; begun = begun_flagged; begun_back = begun_back_flagged }

@@ -7,8 +7,8 @@ use Rattle.cx_grammar.specs.Pieces.{Piece}
 use Rattle.cx_grammar.specs.Production.{Production, give, ◌>>=◌, token, begins}
 use Rattle.cx_grammar.specs.Words.{word, punct, any_name, literal_token}
 use Rattle.cx_grammar.specs.Names.{Context, deeper, type_name, class_name, kind_name, template_name, concept_name}
-use Rattle.cx_grammar.specs.Types.{Numbered, Placed, NoCall, Below, type_id, bare_type, const_type, type_behind, maybe_const, maybe_reference, core, head_core, class_core, type_name_core, scalar_only, scalar_core, word_core, long_core, scalar_behind, behind_sign, long_long, maybe_int, placed_scalar, scalar_of_word, one_word, as_type, qualified_names}
-use Rattle.cx_grammar.specs.Expressions.{levels, goes_on, head_name, core_word, is_prefix, list, qualified, behind_head, behind_core, headed, cored, word_list, with_calling, group, worded, simple_primary, primary, tail, postfix, prefixed, unary, expr_behind, expr}
+use Rattle.cx_grammar.specs.Types.{Numbered, Placed, Calling, NoCall, Below, type_id, bare_type, const_type, type_behind, maybe_const, maybe_reference, core, head_core, class_core, type_name_core, scalar_only, scalar_core, word_core, long_core, scalar_behind, behind_sign, long_long, maybe_int, placed_scalar, scalar_of_word, one_word, as_type, qualified_names}
+use Rattle.cx_grammar.specs.Expressions.{levels, goes_on, head_name, core_word, is_prefix, list, qualified, behind_head, behind_core, headed, cored, word_list, group, worded, simple_primary, primary, tail, postfix, prefixed, unary, expr_behind, expr}
 use Rattle.cx_grammar.proofs.AloneTypes.{BelowAlone}
 use Rattle.cx_grammar.proofs.AloneExpressions.{tail-Alone}
 use Rattle.cx_grammar.proofs.Printed.{Starts, token-Starts, first-Starts, neither}
@@ -72,28 +72,29 @@ module _ {b : Below} (h : BelowAlone b) (c : Context) (n : ℕ) {B : Type 0} (be
       whole' ← expr_behind b c e
       behind whole')
 
-  primary_first : {W : Where} (x : Production (Numbered ExprTree)) → ((ts : List Piece) → W ts → begins is_prefix ts ≡ false) → Alike W (primary b c n) (with_calling NoCall x) → Alike W (expr b c n >>= behind) (x >>= behind_primary)
+  pub primary_first : {W : Where} {X : Type 0} (x : Production X) (made_of : X → Numbered ExprTree × Calling) → ((ts : List Piece) → W ts → begins is_prefix ts ≡ false) → Alike W (primary b c n) (x >>= (λ v. give (made_of v)))
+      → Alike W (expr b c n >>= behind) (x >>= (λ v. tail b (made_of v).1 c (made_of v).0 >>= (λ e. expr_behind b c e >>= behind)))
   unfolding expr unary postfix
-  primary_first {W} x no_prefix a =
+  primary_first {W} x made_of no_prefix a =
       regrouped W (unary b c n) (expr_behind b c) behind
       then first-Alike
       (skip-Alike is_prefix (prefixed b c n) (postfix b c n) no_prefix
       then first-Alike a (λ p. tail b p.1 c p.0)
-      then regrouped W x (λ e. give (e, NoCall)) (λ p. tail b p.1 c p.0)
-      then second-Alike W x (λ e. given-Alike Any (e, NoCall) (λ p. tail b p.1 c p.0) (λ l. (tail-Alone h NoCall c e).lawful.starts l)))
+      then regrouped W x (λ v. give (made_of v)) (λ p. tail b p.1 c p.0)
+      then second-Alike W x (λ v. given-Alike Any (made_of v) (λ p. tail b p.1 c p.0) (λ l. (tail-Alone h (made_of v).1 c (made_of v).0).lawful.starts l)))
       (λ e. expr_behind b c e >>= behind)
-      then regrouped W x (tail b NoCall c) (λ e. expr_behind b c e >>= behind)
+      then regrouped W x (λ v. tail b (made_of v).1 c (made_of v).0) (λ e. expr_behind b c e >>= behind)
 
   pub head_expr : Alike (First (head_name c)) (expr b c n >>= behind) (b.core (deeper c) n >>= (λ k. behind_head b c k >>= behind_primary))
   unfolding primary headed
   head_expr =
-      primary_first (headed b c n) (never_begins (head_prefix c)) (take-Alike (head_name c) _ _ (λ ts e. e))
+      primary_first (headed b c n) (λ e. (e, NoCall)) (never_begins (head_prefix c)) (take-Alike (head_name c) _ _ (λ ts e. e))
       then regrouped (First (head_name c)) (b.core (deeper c) n) (behind_head b c) behind_primary
 
   pub core_expr : Alike (First core_word) (expr b c n >>= behind) (b.core (deeper c) n >>= (λ k. behind_core b c k >>= behind_primary))
   unfolding primary cored
   core_expr =
-      primary_first (cored b c n) (never_begins core_word_prefix) (skip-Alike (head_name c) _ _ (never_begins (core_word_head c)) then take-Alike core_word _ _ (λ ts e. e))
+      primary_first (cored b c n) (λ e. (e, NoCall)) (never_begins core_word_prefix) (skip-Alike (head_name c) _ _ (never_begins (core_word_head c)) then take-Alike core_word _ _ (λ ts e. e))
       then regrouped (First core_word) (b.core (deeper c) n) (behind_core b c) behind_primary
 
   -- a scalar of one word
@@ -103,7 +104,7 @@ module _ {b : Below} (h : BelowAlone b) (c : Context) (n : ℕ) {B : Type 0} (be
   pub word_expr : Alike (First one_word) (expr b c n >>= behind) (token (c.load + 1) one_word >>= scalar_list)
   unfolding primary word_list
   word_expr =
-      primary_first (word_list b c n) (never_begins one_word_prefix)
+      primary_first (word_list b c n) (λ e. (e, NoCall)) (never_begins one_word_prefix)
       (skip-Alike (head_name c) _ _ (never_begins (one_word_head c)) then skip-Alike core_word _ _ (never_begins one_word_core) then take-Alike one_word _ _ (λ ts e. e))
       then regrouped (First one_word) (token (c.load + 1) one_word) (λ t. behind_core b c (placed_scalar t (scalar_of_word t), n)) behind_primary
 

@@ -15,3 +15,4 @@ pub mod Cases
 pub mod Tokens
 pub mod Firsts
 pub mod Arguments
+pub mod Statements

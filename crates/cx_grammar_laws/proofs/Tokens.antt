@@ -15,11 +15,11 @@ use Rattle.cx_grammar_laws.proofs.Cases.{Never}
 abbrev pub made : TokenKind → List ℕ → Piece → Piece
 made k text t = record { token = record { kind = k; text = text; at = t.token.at }; half = t.half }
 
-left_true : (a b : Bool) → (a && b) ≡ true → a ≡ true
+pub left_true : (a b : Bool) → (a && b) ≡ true → a ≡ true
 left_true true b e = refl
 left_true false b e = e
 
-right_true : (a b : Bool) → (a && b) ≡ true → b ≡ true
+pub right_true : (a b : Bool) → (a && b) ≡ true → b ≡ true
 right_true true b e = e
 right_true false b e = absurd (true≢false (sym e))
 
@@ -63,6 +63,13 @@ other_punct a d n t e = go (punct d t) refl
         let same : a ≡ d = sym (spelled a t e) ∙ spelled d t k in
         absurd (true≢false (sym ((bytes_eq-Decides a d).1 same) ∙ n))
 
+pub flipped : {r q : Piece → Bool} → Never r q → Never q r
+flipped {r} {q} h t e = go (r t) refl
+  where
+    go : (z : Bool) → r t ≡ z → r t ≡ false
+    go true d = absurd (true≢false (sym e ∙ h t d))
+    go false d = d
+
 -- one of two kinds
 pub either_Never : {r s q : Piece → Bool} → Never r q → Never s q → Never (λ t. r t || s t) q
 either_Never {r} {s} {q} a b t e = go (r t) refl e
@@ -77,7 +84,7 @@ nor a b e d = ap (λ (z : Bool). z || b) e ∙ d
 pub neither_Never : {r q s : Piece → Bool} → Never r q → Never r s → Never r (λ t. q t || s t)
 neither_Never {r} {q} {s} a b t e = nor (q t) (s t) (a t e) (b t e)
 
-kind_any : (k : Rattle.cx_scope.specs.declared.name_kind.NameKind.NameKind) (c : Context) (t : Piece) → kind_name k c t ≡ true → any_name t ≡ true
+pub kind_any : (k : Rattle.cx_scope.specs.declared.name_kind.NameKind.NameKind) (c : Context) (t : Piece) → kind_name k c t ≡ true → any_name t ≡ true
 unfolding kind_name
 kind_any k c t e = left_true _ _ e
 

@@ -4,11 +4,17 @@
 ghost use Rattle.std.specs.Prelude.{ℕ, suc};
 ghost use Rattle.cx_grammar.specs.Names.{Context};
 ghost use Rattle.cx_grammar.specs.Expressions.{argument, levels, goes_on};
+<<<<<<< HEAD
 ghost use Rattle.cx_grammar.specs.Declarations.{no_piece};
 ghost use Rattle.cx_grammar.specs.Printed.{IsAsPrinted};
 ghost use Rattle.cx_grammar_laws.specs.Requires.{requirement, requires_expr};
 ghost use Rattle.cx_grammar_laws.specs.Printed.{printed_argument};
 ghost use Rattle.cx_grammar_laws.specs.PrintedRequires.{printed_requirement, printed_requires_expr};
+=======
+ghost use Rattle.cx_grammar.specs.Statements.{open_stmt};
+ghost use Rattle.cx_grammar.specs.Printed.{IsAsPrinted};
+ghost use Rattle.cx_grammar_laws.specs.Printed.{printed_argument, nothing, printed_open_stmt};
+>>>>>>> 2947d85 (Statements that are a variable or an expression are as they are printed)
 
 /// Template arguments ([temp.arg]): a type or an expression, where what would go on behind a type, `{` or `::`, does not
 /// stand behind it. A scalar is read where its type is within one more construct, so there is one level at least.
@@ -16,6 +22,7 @@ pub fn arguments_as_printed()
     ensures printed { (c : Context) (n depth : ℕ) → IsAsPrinted (argument (levels (suc depth)) c n) goes_on (printed_argument (levels (suc depth)) c n) }
 {}
 
+<<<<<<< HEAD
 /// Requirements ([expr.prim.req.simple] to [expr.prim.req.nested]): no expression begins one with `typename` or
 /// `requires`.
 pub fn requirements_as_printed()
@@ -25,4 +32,10 @@ pub fn requirements_as_printed()
 /// Requires-expressions ([expr.prim.req]): parameters in parentheses or none, then one or more requirements in braces.
 pub fn requires_expressions_as_printed()
     ensures printed { (c : Context) (n depth : ℕ) → IsAsPrinted (requires_expr (levels depth) c n) no_piece (printed_requires_expr (levels depth) c n) }
+=======
+/// Statements that begin with a type, an `auto` or an expression ([stmt.expr], [stmt.dcl]): a declaration of a variable,
+/// behind `constexpr` or not, or an expression and `;`. There is one level at least, as above.
+pub fn statements_as_printed()
+    ensures printed { (c : Context) (n depth : ℕ) → IsAsPrinted (open_stmt (levels (suc depth)) c n) nothing (printed_open_stmt (levels (suc depth)) c n) }
+>>>>>>> 2947d85 (Statements that are a variable or an expression are as they are printed)
 {}
