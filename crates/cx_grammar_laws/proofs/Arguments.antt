@@ -109,7 +109,7 @@ module _ (depth : ℕ) (c : Context) (n : ℕ) where
   other_case : IsPrinted Other E
   other_case =
       only_second (printed_alike goes_on (alike Other E))
-      (starts-Idle (type_first c) (first-Starts (λ t. give (type_argument t)) (type-Starts depth c n)) (λ ts h. no_type c ts h.0.0.0.0.1 h.0.0.0.1 h.0.0.1 h.0.1 h.1) E-starts)
+      (starts-Idle (type_first c) (first-Starts (λ t. give (type_argument t)) (type-Starts (suc depth) c n)) (λ ts h. no_type c ts h.0.0.0.0.1 h.0.0.0.1 h.0.0.1 h.0.1 h.1) E-starts)
 
   argument_where : IsPrinted Any (argument b c n)
   unfolding argument

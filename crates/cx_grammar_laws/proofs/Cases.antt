@@ -501,6 +501,100 @@ filled-Apart {A} {goes_on} {q} {p} f a = record { trees = λ l ts behind x n w. 
     go l [] behind x w e = absurd (f.filled l behind x w)
     go l (t ∷ ts) behind x w e = e
 
+pub or-Idle : {A : Type 0} {W : Where} {r s other : Relation A} → Idle W r other → Idle W s other → Idle W (or r s) other
+or-Idle {A} {W} {r} {s} {other} a b = record { no_tree = no_tree; no_beginning = no_beginning }
+  where
+    no_tree : (l : ℕ) (ts behind : List Piece) (x : A) → W (ts ++ behind) → r.whole l ts behind x ⊎ s.whole l ts behind x → ⊥
+    no_tree l ts behind x h (inl w) = a.no_tree l ts behind x h w
+    no_tree l ts behind x h (inr w) = b.no_tree l ts behind x h w
+
+    no_beginning : (l : ℕ) (ts : List Piece) → W ts → r.front l ts ⊎ s.front l ts → other.front l ts
+    no_beginning l ts h (inl k) = a.no_beginning l ts h k
+    no_beginning l ts h (inr k) = b.no_beginning l ts h k
+
+-- a token, then something: it has no tree where another token stands
+pub behind-Idle : {B : Type 0} {W : Where} (load : ℕ) (q : Piece → Bool) (r : Piece → Relation B) {other : Relation B} → ((ts : List Piece) → W ts → begins q ts ≡ false) → ((l : ℕ) → other.front l [])
+    → Idle W (relation.◌>>=◌ (trees_of (token load q)) r) other
+unfolding begins
+behind-Idle {B} {W} load q r {other} h starts = record { no_tree = no_tree; no_beginning = no_beginning }
+  where
+    never : (ts vs behind : List Piece) (t : Piece) → ts ≡ t ∷ vs → q t ≡ true → W (ts ++ behind) → ⊥
+    never ts vs behind t e fits k = true≢false (sym fits ∙ sym (ap (λ (s : List Piece). begins q (s ++ behind)) e) ∙ h (ts ++ behind) k)
+
+    no_tree : (l : ℕ) (ts behind : List Piece) (x : B) → W (ts ++ behind) → (relation.◌>>=◌ (trees_of (token load q)) r).whole l ts behind x → ⊥
+    no_tree l ts behind x k (t, us, vs, e, (d, fits, low), w) = never ts vs behind t (e ∙ ap (λ (s : List Piece). s ++ vs) d) fits k
+
+    here : (ts vs : List Piece) (t : Piece) → ts ≡ t ∷ vs → q t ≡ true → W ts → ⊥
+    here ts vs t e fits k = true≢false (sym fits ∙ sym (ap (λ (s : List Piece). begins q s) e) ∙ h ts k)
+
+    no_beginning : (l : ℕ) (ts : List Piece) → W ts → (relation.◌>>=◌ (trees_of (token load q)) r).front l ts → other.front l ts
+    no_beginning l ts k (inl (inl e)) = subst (λ (z : List Piece). other.front l z) (sym e) (starts l)
+    no_beginning l ts k (inl (inr (t, e, fits, low))) = absurd (here ts [] t e fits k)
+    no_beginning l ts k (inr (t, us, vs, e, (d, fits, low), f)) = absurd (here ts vs t (e ∙ ap (λ (s : List Piece). s ++ vs) d) fits k)
+
+-- the first alternative is printed otherwise
+pub first_alternative : {A : Type 0} {W : Where} {goes_on : Piece → Bool} {p s s' : Production A} {r : Relation A} → Alike W s s' → PrintedWhere W goes_on p (or (trees_of s') r) → PrintedWhere W goes_on p (or (trees_of s) r)
+first_alternative {A} {W} {goes_on} {p} {s} {s'} {r} a h = record {
+  to = λ l ts behind x k n w. to l ts behind x k (h.to l ts behind x k n w);
+  back = λ l ts behind x k n w. h.back l ts behind x k n (back l ts behind x k w);
+  begun = λ l ts k f. begun l ts k (h.begun l ts k f);
+  begun_back = λ l ts k f. h.begun_back l ts k (begun_back l ts k f);
+}
+  where
+    to : (l : ℕ) (ts behind : List Piece) (x : A) → W (ts ++ behind) → s'.whole l ts behind x ⊎ r.whole l ts behind x → s.whole l ts behind x ⊎ r.whole l ts behind x
+    to l ts behind x k (inl w) = inl (a.back l ts behind x k w)
+    to l ts behind x k (inr w) = inr w
+
+    back : (l : ℕ) (ts behind : List Piece) (x : A) → W (ts ++ behind) → s.whole l ts behind x ⊎ r.whole l ts behind x → s'.whole l ts behind x ⊎ r.whole l ts behind x
+    back l ts behind x k (inl w) = inl (a.to l ts behind x k w)
+    back l ts behind x k (inr w) = inr w
+
+    begun : (l : ℕ) (ts : List Piece) → W ts → s'.front l ts ⊎ r.front l ts → s.front l ts ⊎ r.front l ts
+    begun l ts k (inl f) = inl (a.begun_back l ts k f)
+    begun l ts k (inr f) = inr f
+
+    begun_back : (l : ℕ) (ts : List Piece) → W ts → s.front l ts ⊎ r.front l ts → s'.front l ts ⊎ r.front l ts
+    begun_back l ts k (inl f) = inl (a.begun l ts k f)
+    begun_back l ts k (inr f) = inr f
+
+-- what stands behind a production is printed as two alternatives
+module _ {A B : Type 0} (W : Where) {goes_on : Piece → Bool} (p : Production A) (f s : A → Production B) (r : A → Relation B) (h : (x : A) → PrintedWhere Any goes_on (f x) (or (trees_of (s x)) (r x))) where
+  abbrev parted : Relation B
+  parted = or (trees_of (p >>= s)) (relation.◌>>=◌ (trees_of p) r)
+
+  to_parted : (l : ℕ) (ts behind : List Piece) (y : B) → begins goes_on behind ≡ false → (p >>= f).whole l ts behind y → parted.whole l ts behind y
+  to_parted l ts behind y n (x, us, vs, e, w, v) = go ((h x).to l vs behind y tt n v)
+    where
+      go : (s x).whole l vs behind y ⊎ (r x).whole l vs behind y → parted.whole l ts behind y
+      go (inl v) = inl (x, us, vs, e, w, v)
+      go (inr v) = inr (x, us, vs, e, w, v)
+
+  back_parted : (l : ℕ) (ts behind : List Piece) (y : B) → begins goes_on behind ≡ false → parted.whole l ts behind y → (p >>= f).whole l ts behind y
+  back_parted l ts behind y n (inl (x, us, vs, e, w, v)) = (x, us, vs, e, w, (h x).back l vs behind y tt n (inl v))
+  back_parted l ts behind y n (inr (x, us, vs, e, w, v)) = (x, us, vs, e, w, (h x).back l vs behind y tt n (inr v))
+
+  begun_parted : (l : ℕ) (ts : List Piece) → (p >>= f).front l ts → parted.front l ts
+  begun_parted l ts (inl k) = inl (inl k)
+  begun_parted l ts (inr (x, us, vs, e, w, k)) = go ((h x).begun l vs tt k)
+    where
+      go : (s x).front l vs ⊎ (r x).front l vs → parted.front l ts
+      go (inl k) = inl (inr (x, us, vs, e, w, k))
+      go (inr k) = inr (inr (x, us, vs, e, w, k))
+
+  begun_back_parted : (l : ℕ) (ts : List Piece) → parted.front l ts → (p >>= f).front l ts
+  begun_back_parted l ts (inl (inl k)) = inl k
+  begun_back_parted l ts (inl (inr (x, us, vs, e, w, k))) = inr (x, us, vs, e, w, (h x).begun_back l vs tt (inl k))
+  begun_back_parted l ts (inr (inl k)) = inl k
+  begun_back_parted l ts (inr (inr (x, us, vs, e, w, k))) = inr (x, us, vs, e, w, (h x).begun_back l vs tt (inr k))
+
+  pub behind-Printed : PrintedWhere W goes_on (p >>= f) parted
+  behind-Printed = record {
+    to = λ l ts behind y k n w. to_parted l ts behind y n w;
+    back = λ l ts behind y k n w. back_parted l ts behind y n w;
+    begun = λ l ts k f'. begun_parted l ts f';
+    begun_back = λ l ts k f'. begun_back_parted l ts f';
+  }
+
 -- Behind a production the next token tells two apart: one begins with tokens of a kind, the other never does.
 module _ {A B : Type 0} (W : Where) (goes_on q : Piece → Bool) (p : Production A) {first second : A → Production B}
     (ha : (x : A) → Starts q (first x)) (hb : (x : A) → Apart goes_on q (second x)) (starts : (x : A) (l : ℕ) → (second x).front l []) where
@@ -596,6 +690,16 @@ or_grouped r s t = record { to = λ l ts behind x w. to w; back = λ l ts behind
     back (inl (inl w)) = inl w
     back (inl (inr w)) = inr (inl w)
     back (inr w) = inr (inr w)
+
+pub turned_same : {A : Type 0} {r s : Relation A} → Same r s → Same s r
+turned_same e = record { to = e.back; back = e.to; begun = e.begun_back; begun_back = e.begun }
+
+pub or_exchanged : {A : Type 0} (r s : Relation A) → Same (or r s) (or s r)
+or_exchanged r s = record { to = λ l ts behind x w. turn w; back = λ l ts behind x w. turn w; begun = λ l ts k. turn k; begun_back = λ l ts k. turn k }
+  where
+    turn : {P Q : Type 0} → P ⊎ Q → Q ⊎ P
+    turn (inl w) = inr w
+    turn (inr w) = inl w
 
 pub both_same : {A : Type 0} {r s t : Relation A} → Same r s → Same s t → Same r t
 both_same a b = record {

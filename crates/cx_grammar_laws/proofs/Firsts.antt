@@ -1,5 +1,5 @@
 -- Types and expressions by their first tokens.
-use Rattle.std.proofs.Common.{◌≡◌, ℕ, suc, ◌+◌, Bool, true, false, ◌||◌, List, [], ◌∷◌, codes, refl, true≢false}
+use Rattle.std.proofs.Common.{inl, zero, ◌≡◌, ℕ, suc, ◌+◌, Bool, true, false, ◌||◌, List, [], ◌∷◌, codes, refl, true≢false}
 use Rattle.cx_base.specs.declared.place.Place.{Place}
 use Rattle.cx_base.specs.declared.value.Scalar.{Scalar}
 use Rattle.cx_tree.specs.Trees.{ExprTree, TypeTree, CoreTree}
@@ -181,9 +181,14 @@ module _ (b : Below) (c : Context) (n : ℕ) where
 abbrev pub type_first : Context → Piece → Bool
 type_first c t = word (codes "const") t || core_first (deeper c) t
 
-pub type-Starts : (depth : ℕ) (c : Context) (n : ℕ) → Starts (type_first c) (type_id (levels (suc depth)) c n)
-unfolding type_id bare_type levels
-type-Starts depth c n = chosen-Starts (word (codes "const")) _ _ (first-Starts _ (core-Starts (levels depth) (deeper c) n))
+pub level_core-Starts : (depth : ℕ) (c : Context) (n : ℕ) → Starts (core_first c) ((levels depth).core c n)
+unfolding levels
+level_core-Starts zero c n = record { begins_so = λ l ts behind x w. absurd w; begun_so = λ l ts k. inl k }
+level_core-Starts (suc depth) c n = core-Starts (levels depth) c n
+
+pub type-Starts : (depth : ℕ) (c : Context) (n : ℕ) → Starts (type_first c) (type_id (levels depth) c n)
+unfolding type_id bare_type
+type-Starts depth c n = chosen-Starts (word (codes "const")) _ (const_type (levels depth) c n) (first-Starts _ (level_core-Starts depth (deeper c) n))
 
 nor_parts : (a b : Bool) → (a || b) ≡ false → (a ≡ false) × (b ≡ false)
 nor_parts true b e = absurd (true≢false e)

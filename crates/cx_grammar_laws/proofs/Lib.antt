@@ -16,3 +16,4 @@ pub mod Tokens
 pub mod Firsts
 pub mod Arguments
 pub mod Statements
+pub mod Variables

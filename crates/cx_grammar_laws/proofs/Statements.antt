@@ -1,5 +1,5 @@
 -- Statements that are a variable or an expression are as they are printed.
-use Rattle.std.proofs.Common.{◌≡◌, ◌⊎◌, inl, inr, ℕ, zero, suc, ◌+◌, Bool, true, false, ◌||◌, ◌&&◌, List, [], ◌∷◌, ◌++◌, codes, Option, None, Some, refl, sym, ap, ◌∙◌, subst, true≢false}
+use Rattle.std.proofs.Common.{◌≡◌, inl, ℕ, zero, suc, ◌+◌, Bool, true, false, ◌||◌, ◌&&◌, List, [], ◌∷◌, ◌++◌, codes, Option, None, Some, refl, sym, ap, ◌∙◌, subst, true≢false}
 use Rattle.cx_scope.specs.declared.name_kind.NameKind.{NameKind}
 use Rattle.cx_scope.specs.declared.name_kind.NameKind.TheVariants.{Value, TypeName, ClassTemplate, Function, FunctionTemplate, Concept}
 use Rattle.cx_scope.specs.Frames.{kind_in}
@@ -22,7 +22,7 @@ use Rattle.cx_grammar.proofs.UnitFilled.{variable_of-Filled, expr_stmt_of-Filled
 use Rattle.cx_grammar.proofs.UnitAlone.{variable_of-Alone, variable-Alone, expr_stmt-Alone, expr_stmt_of-Alone}
 use Rattle.cx_grammar.proofs.Printed.{Starts, token-Starts, first-Starts}
 use Rattle.cx_grammar_laws.specs.Printed.{nothing, printed_open_stmt}
-use Rattle.cx_grammar_laws.proofs.Cases.{Where, Any, First, Alike, alike, turned, ◌then◌, first-Alike, second-Alike, known-Alike, regrouped, given-Alike, take-Alike, skip-Alike, when-Alike, shared, narrower, one_value, repeat_keeps, Never, never_begins, Avoids, give-Avoids, token-Avoids, then-Avoids, filled-Avoids, when-Avoids, begins_neither, chosen-Starts, PrintedWhere, printed_alike, everywhere, by_first, Idle, starts-Idle, only_first, only_second, exchanged, alternatives, filled-Apart, told_apart, itself, or_same, both_same, or_grouped, flagged_same, printed_same}
+use Rattle.cx_grammar_laws.proofs.Cases.{Where, Any, First, Alike, alike, turned, ◌then◌, first-Alike, second-Alike, known-Alike, regrouped, given-Alike, take-Alike, skip-Alike, when-Alike, shared, narrower, one_value, repeat_keeps, Never, never_begins, Avoids, give-Avoids, token-Avoids, then-Avoids, filled-Avoids, when-Avoids, begins_neither, chosen-Starts, PrintedWhere, printed_alike, everywhere, by_first, Idle, starts-Idle, or-Idle, only_first, only_second, exchanged, alternatives, filled-Apart, told_apart, itself, or_same, both_same, or_grouped, flagged_same, printed_same}
 use Rattle.cx_grammar_laws.proofs.Tokens.{right_true, flipped, kind_any, word_Never, name_Never, punct_Never, either_Never, neither_Never, head_any, core_word_Never, one_word_Never}
 use Rattle.cx_grammar_laws.proofs.Firsts.{head_const, core_word_const, one_word_const, long_const, primary_first, head_expr, core_expr, word_expr, expr_first, expr-Starts, const_no_expr, long_no_expr, type_first, type-Starts, no_type, type_behind-Avoids, scalar_behind-Avoids, behind_core-Starts, behind_head-Starts, bare, word_type, const_goes_on, reference_goes_on, const_brace, reference_brace, int_brace, long_brace}
 
@@ -46,7 +46,7 @@ nand : (a b : Bool) → b ≡ false → (a && b) ≡ false
 nand true b e = e
 nand false b e = refl
 
-kind_Never : (a d : NameKind) (c : Context) → same_kind d a ≡ false → Never (kind_name a c) (kind_name d c)
+pub kind_Never : (a d : NameKind) (c : Context) → same_kind d a ≡ false → Never (kind_name a c) (kind_name d c)
 unfolding kind_name
 kind_Never a d c n t e = nand (any_name t) _ (kinds_apart a d n (kind_in c.names t.token.text) (right_true _ _ e))
 
@@ -59,10 +59,10 @@ concept_head c = neither_Never {r = concept_name c} {q = kind_name TypeName c} {
 concept_template : (c : Context) → Never (concept_name c) (template_name c)
 concept_template c = kind_Never Concept FunctionTemplate c refl
 
-concept_any : (c : Context) (q : Piece → Bool) → Never any_name q → Never (concept_name c) q
+pub concept_any : (c : Context) (q : Piece → Bool) → Never any_name q → Never (concept_name c) q
 concept_any c q h t e = h t (kind_any Concept c t e)
 
-name_word : (text : List ℕ) → Never any_name (word text)
+pub name_word : (text : List ℕ) → Never any_name (word text)
 unfolding word
 name_word text = name_Never (word text) (λ t. refl)
 
@@ -70,7 +70,7 @@ name_core_word : Never any_name core_word
 unfolding word
 name_core_word = name_Never core_word (λ t. refl)
 
-name_one_word : Never any_name one_word
+pub name_one_word : Never any_name one_word
 unfolding word one_word
 name_one_word = name_Never one_word (λ t. refl)
 
@@ -118,7 +118,7 @@ auto_const : Never (word (codes "auto")) (word (codes "const"))
 unfolding word
 auto_const = word_Never (codes "auto") (word (codes "const")) (λ t. refl)
 
-auto_concept : (c : Context) → Never (word (codes "auto")) (concept_name c)
+pub auto_concept : (c : Context) → Never (word (codes "auto")) (concept_name c)
 unfolding kind_name any_name
 auto_concept c = word_Never (codes "auto") (concept_name c) (λ t. refl)
 
@@ -259,7 +259,7 @@ module _ (b : Below) (c : Context) (n : ℕ) where
 
 -- ---- statements
 
-auto_behind-Starts : (c : Context) (at : Option Rattle.cx_base.specs.declared.place.Place.Place) (before : Bool) (k : Option ConstraintTree) (n : ℕ) → Starts (word (codes "auto")) (auto_behind c at before k n)
+pub auto_behind-Starts : (c : Context) (at : Option Rattle.cx_base.specs.declared.place.Place.Place) (before : Bool) (k : Option ConstraintTree) (n : ℕ) → Starts (word (codes "auto")) (auto_behind c at before k n)
 unfolding auto_behind
 auto_behind-Starts c at before k n = token-Starts _ _ _
 
@@ -298,7 +298,7 @@ module _ (depth : ℕ) (c : Context) (n : ℕ) where
   V-Starts : Starts (variable_first c) V
   unfolding variable typed_variable
   V-Starts =
-      chosen-Starts (word (codes "const")) _ _ (chosen-Starts (concept_name c) _ _ (chosen-Starts (word (codes "auto")) _ _ (first-Starts (variable_of b c false) (type-Starts depth c n))))
+      chosen-Starts (word (codes "const")) _ _ (chosen-Starts (concept_name c) _ _ (chosen-Starts (word (codes "auto")) _ _ (first-Starts (variable_of b c false) (type-Starts (suc depth) c n))))
 
   no_expr : {W : Where} → ((ts : List Piece) → W ts → begins (expr_first c) ts ≡ false) → Idle W (trees_of X) (trees_of V)
   no_expr h = starts-Idle (expr_first c) X-Starts h V-starts
@@ -443,24 +443,9 @@ module _ (depth : ℕ) (c : Context) (n : ℕ) where
   other_case = only_second (printed_alike nothing (alike Other X)) (starts-Idle (variable_first c) V-Starts no_variable X-starts)
 
   constexpr_case : PrintedWhere (First (word (codes "constexpr"))) nothing D (or (trees_of D) (or (trees_of V) (trees_of X)))
-  constexpr_case = only_first (printed_alike nothing (alike (First (word (codes "constexpr"))) D)) record { no_tree = no_tree; no_beginning = no_beginning }
-    where
-      D-starts : (l : ℕ) → D.front l []
-      D-starts l = inl (inl refl)
-
-      no_V : Idle (First (word (codes "constexpr"))) (trees_of V) (trees_of D)
-      no_V = starts-Idle (variable_first c) V-Starts (never_begins (constexpr_no_variable c)) D-starts
-
-      no_X : Idle (First (word (codes "constexpr"))) (trees_of X) (trees_of D)
-      no_X = starts-Idle (expr_first c) X-Starts (never_begins (constexpr_no_expr c)) D-starts
-
-      no_tree : (l : ℕ) (ts behind : List Piece) (x : Named StmtTree) → First (word (codes "constexpr")) (ts ++ behind) → V.whole l ts behind x ⊎ X.whole l ts behind x → ⊥
-      no_tree l ts behind x h (inl w) = no_V.no_tree l ts behind x h w
-      no_tree l ts behind x h (inr w) = no_X.no_tree l ts behind x h w
-
-      no_beginning : (l : ℕ) (ts : List Piece) → First (word (codes "constexpr")) ts → V.front l ts ⊎ X.front l ts → D.front l ts
-      no_beginning l ts h (inl k) = no_V.no_beginning l ts h k
-      no_beginning l ts h (inr k) = no_X.no_beginning l ts h k
+  constexpr_case =
+      only_first (printed_alike nothing (alike (First (word (codes "constexpr"))) D))
+      (or-Idle (starts-Idle (variable_first c) V-Starts (never_begins (constexpr_no_variable c)) (λ l. inl (inl refl))) (starts-Idle (expr_first c) X-Starts (never_begins (constexpr_no_expr c)) (λ l. inl (inl refl))))
 
   stmt_where : PrintedWhere Any nothing (open_stmt b c n) (or (trees_of D) (or (trees_of V) (trees_of X)))
   unfolding open_stmt

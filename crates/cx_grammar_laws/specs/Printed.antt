@@ -1,5 +1,6 @@
 -- Productions as the text of the grammar has them: alternatives, whatever their first tokens are.
-use Rattle.std.specs.Prelude.{ℕ, Bool, true, false, codes}
+use Rattle.std.specs.Prelude.{Option, None, Some, ℕ, Bool, true, false, codes}
+use Rattle.cx_base.specs.declared.place.Place.{Place}
 use Rattle.cx_tree.specs.Trees.{ArgumentTree}
 use Rattle.cx_tree.specs.Statements.{StmtTree}
 use Rattle.cx_grammar.specs.Pieces.{Piece}
@@ -9,7 +10,7 @@ use Rattle.cx_grammar.specs.Printed.{Relation, trees_of, ◌>>=◌, or, optional
 use Rattle.cx_grammar.specs.Names.{Context}
 use Rattle.cx_grammar.specs.Types.{Numbered, Below, type_id}
 use Rattle.cx_grammar.specs.Expressions.{expr, type_argument, value_argument}
-use Rattle.cx_grammar.specs.Statements.{Named, variable, expr_stmt}
+use Rattle.cx_grammar.specs.Statements.{Named, typed_variable, constrained_auto, plain_auto, variable, expr_stmt}
 
 -- ---- targ = type | carg, where carg is an expression: within a list it has no assignment, and `>` is no operator
 
@@ -38,3 +39,18 @@ printed_open_stmt b c n = or
           false
       trees_of (variable b c is_constexpr n))
     (trees_of (expr_stmt b c n))
+
+-- ---- variable = type Name init ";" | [ "const" ] [ constraint ] "auto" [ "const" ] [ "&" ] Name "=" expr ";"
+
+-- `auto` behind a constraint or alone; the place of a `const` before them is told
+abbrev pub maybe_constrained : Below → Context → ℕ → Option Place → Bool → Bool → Relation (Named StmtTree)
+maybe_constrained b c n at is_constexpr before = or (trees_of (constrained_auto b c at is_constexpr before n)) (trees_of (plain_auto b c at is_constexpr before n))
+
+unfoldable pub printed_variable : Below → Context → Bool → ℕ → Relation (Named StmtTree)
+printed_variable b c is_constexpr n = or
+    (trees_of (typed_variable b c is_constexpr n))
+    (or
+    (maybe_constrained b c n None is_constexpr false)
+    (do
+      t ← trees_of (token c.load (word (codes "const")))
+      maybe_constrained b c n (Some t.token.at) is_constexpr true))

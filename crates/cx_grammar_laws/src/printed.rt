@@ -1,20 +1,15 @@
 //! The grammar as it is printed: productions that choose by the first tokens have the trees and beginnings of the
-//! alternatives that the text of the grammar has. Each law is the contract of a function that does nothing.
+//! alternatives that the text of the grammar has.
 
-ghost use Rattle.std.specs.Prelude.{ℕ, suc};
+ghost use Rattle.std.specs.Prelude.{ℕ, suc, Bool};
 ghost use Rattle.cx_grammar.specs.Names.{Context};
 ghost use Rattle.cx_grammar.specs.Expressions.{argument, levels, goes_on};
-<<<<<<< HEAD
+ghost use Rattle.cx_grammar.specs.Statements.{open_stmt, variable};
 ghost use Rattle.cx_grammar.specs.Declarations.{no_piece};
 ghost use Rattle.cx_grammar.specs.Printed.{IsAsPrinted};
 ghost use Rattle.cx_grammar_laws.specs.Requires.{requirement, requires_expr};
-ghost use Rattle.cx_grammar_laws.specs.Printed.{printed_argument};
 ghost use Rattle.cx_grammar_laws.specs.PrintedRequires.{printed_requirement, printed_requires_expr};
-=======
-ghost use Rattle.cx_grammar.specs.Statements.{open_stmt};
-ghost use Rattle.cx_grammar.specs.Printed.{IsAsPrinted};
-ghost use Rattle.cx_grammar_laws.specs.Printed.{printed_argument, nothing, printed_open_stmt};
->>>>>>> 2947d85 (Statements that are a variable or an expression are as they are printed)
+ghost use Rattle.cx_grammar_laws.specs.Printed.{printed_argument, nothing, printed_open_stmt, printed_variable};
 
 /// Template arguments ([temp.arg]): a type or an expression, where what would go on behind a type, `{` or `::`, does not
 /// stand behind it. A scalar is read where its type is within one more construct, so there is one level at least.
@@ -22,7 +17,18 @@ pub fn arguments_as_printed()
     ensures printed { (c : Context) (n depth : ℕ) → IsAsPrinted (argument (levels (suc depth)) c n) goes_on (printed_argument (levels (suc depth)) c n) }
 {}
 
-<<<<<<< HEAD
+/// Statements that begin with a type, an `auto` or an expression ([stmt.expr], [stmt.dcl]): a declaration of a variable,
+/// behind `constexpr` or not, or an expression and `;`. There is one level at least, as above.
+pub fn statements_as_printed()
+    ensures printed { (c : Context) (n depth : ℕ) → IsAsPrinted (open_stmt (levels (suc depth)) c n) nothing (printed_open_stmt (levels (suc depth)) c n) }
+{}
+
+/// Declarations of variables ([dcl.dcl], [dcl.spec.auto]): of a type, or of `auto` behind `const` and a constraint, each
+/// there or not.
+pub fn variables_as_printed()
+    ensures printed { (c : Context) (is_constexpr : Bool) (n depth : ℕ) → IsAsPrinted (variable (levels depth) c is_constexpr n) nothing (printed_variable (levels depth) c is_constexpr n) }
+{}
+
 /// Requirements ([expr.prim.req.simple] to [expr.prim.req.nested]): no expression begins one with `typename` or
 /// `requires`.
 pub fn requirements_as_printed()
@@ -32,10 +38,4 @@ pub fn requirements_as_printed()
 /// Requires-expressions ([expr.prim.req]): parameters in parentheses or none, then one or more requirements in braces.
 pub fn requires_expressions_as_printed()
     ensures printed { (c : Context) (n depth : ℕ) → IsAsPrinted (requires_expr (levels depth) c n) no_piece (printed_requires_expr (levels depth) c n) }
-=======
-/// Statements that begin with a type, an `auto` or an expression ([stmt.expr], [stmt.dcl]): a declaration of a variable,
-/// behind `constexpr` or not, or an expression and `;`. There is one level at least, as above.
-pub fn statements_as_printed()
-    ensures printed { (c : Context) (n depth : ℕ) → IsAsPrinted (open_stmt (levels (suc depth)) c n) nothing (printed_open_stmt (levels (suc depth)) c n) }
->>>>>>> 2947d85 (Statements that are a variable or an expression are as they are printed)
 {}
