@@ -459,31 +459,6 @@ module _ {A : Type 0} {W : Where} {goes_on : Piece → Bool} {p : Production A} 
 pub only_second : {A : Type 0} {W : Where} {goes_on : Piece → Bool} {p : Production A} {s t : Relation A} → PrintedWhere W goes_on p t → Idle W s t → PrintedWhere W goes_on p (or s t)
 only_second a i = exchanged (only_first a i)
 
--- two alternatives that are printed otherwise
-pub alternatives : {A : Type 0} {W : Where} {goes_on : Piece → Bool} {p s s' t t' : Production A} → Alike W s s' → Alike W t t' → PrintedWhere W goes_on p (or (trees_of s') (trees_of t')) → PrintedWhere W goes_on p (or (trees_of s) (trees_of t))
-alternatives {A} {W} {goes_on} {p} {s} {s'} {t} {t'} a b h = record {
-  to = λ l ts behind x k n w. to l ts behind x k (h.to l ts behind x k n w);
-  back = λ l ts behind x k n w. h.back l ts behind x k n (back l ts behind x k w);
-  begun = λ l ts k f. begun l ts k (h.begun l ts k f);
-  begun_back = λ l ts k f. h.begun_back l ts k (begun_back l ts k f);
-}
-  where
-    to : (l : ℕ) (ts behind : List Piece) (x : A) → W (ts ++ behind) → s'.whole l ts behind x ⊎ t'.whole l ts behind x → s.whole l ts behind x ⊎ t.whole l ts behind x
-    to l ts behind x k (inl w) = inl (a.back l ts behind x k w)
-    to l ts behind x k (inr w) = inr (b.back l ts behind x k w)
-
-    back : (l : ℕ) (ts behind : List Piece) (x : A) → W (ts ++ behind) → s.whole l ts behind x ⊎ t.whole l ts behind x → s'.whole l ts behind x ⊎ t'.whole l ts behind x
-    back l ts behind x k (inl w) = inl (a.to l ts behind x k w)
-    back l ts behind x k (inr w) = inr (b.to l ts behind x k w)
-
-    begun : (l : ℕ) (ts : List Piece) → W ts → s'.front l ts ⊎ t'.front l ts → s.front l ts ⊎ t.front l ts
-    begun l ts k (inl f) = inl (a.begun_back l ts k f)
-    begun l ts k (inr f) = inr (b.begun_back l ts k f)
-
-    begun_back : (l : ℕ) (ts : List Piece) → W ts → s.front l ts ⊎ t.front l ts → s'.front l ts ⊎ t'.front l ts
-    begun_back l ts k (inl f) = inl (a.begun l ts k f)
-    begun_back l ts k (inr f) = inr (b.begun l ts k f)
-
 -- neither the first piece nor the next one is of a kind, where what goes on does not stand behind the pieces
 pub record Apart {A : Type 0} (goes_on q : Piece → Bool) (p : Production A) : Type 0 where
   pub trees : (l : ℕ) (ts behind : List Piece) (x : A) → begins goes_on behind ≡ false → p.whole l ts behind x → begins q (ts ++ behind) ≡ false
@@ -556,6 +531,10 @@ first_alternative {A} {W} {goes_on} {p} {s} {s'} {r} a h = record {
     begun_back : (l : ℕ) (ts : List Piece) → W ts → s.front l ts ⊎ r.front l ts → s'.front l ts ⊎ r.front l ts
     begun_back l ts k (inl f) = inl (a.begun l ts k f)
     begun_back l ts k (inr f) = inr f
+
+-- ... and so are both
+pub alternatives : {A : Type 0} {W : Where} {goes_on : Piece → Bool} {p s s' t t' : Production A} → Alike W s s' → Alike W t t' → PrintedWhere W goes_on p (or (trees_of s') (trees_of t')) → PrintedWhere W goes_on p (or (trees_of s) (trees_of t))
+alternatives a b h = first_alternative a (exchanged (first_alternative b (exchanged h)))
 
 -- what stands behind a production is printed as two alternatives
 module _ {A B : Type 0} (W : Where) {goes_on : Piece → Bool} (p : Production A) (f s : A → Production B) (r : A → Relation B) (h : (x : A) → PrintedWhere Any goes_on (f x) (or (trees_of (s x)) (r x))) where
