@@ -16,4 +16,7 @@ pub mod Tokens
 pub mod Firsts
 pub mod Arguments
 pub mod Statements
+pub mod Autos
 pub mod Variables
+pub mod Behind
+pub mod Parameters

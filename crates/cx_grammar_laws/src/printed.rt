@@ -5,11 +5,12 @@ ghost use Rattle.std.specs.Prelude.{ℕ, suc, Bool};
 ghost use Rattle.cx_grammar.specs.Names.{Context};
 ghost use Rattle.cx_grammar.specs.Expressions.{argument, levels, goes_on};
 ghost use Rattle.cx_grammar.specs.Statements.{open_stmt, variable};
-ghost use Rattle.cx_grammar.specs.Declarations.{no_piece};
+ghost use Rattle.cx_grammar.specs.Words.{any_name};
+ghost use Rattle.cx_grammar.specs.Declarations.{no_piece, parameter};
 ghost use Rattle.cx_grammar.specs.Printed.{IsAsPrinted};
 ghost use Rattle.cx_grammar_laws.specs.Requires.{requirement, requires_expr};
 ghost use Rattle.cx_grammar_laws.specs.PrintedRequires.{printed_requirement, printed_requires_expr};
-ghost use Rattle.cx_grammar_laws.specs.Printed.{printed_argument, nothing, printed_open_stmt, printed_variable};
+ghost use Rattle.cx_grammar_laws.specs.Printed.{printed_argument, nothing, printed_open_stmt, printed_variable, printed_parameter};
 
 /// Template arguments ([temp.arg]): a type or an expression, where what would go on behind a type, `{` or `::`, does not
 /// stand behind it. A scalar is read where its type is within one more construct, so there is one level at least.
@@ -27,6 +28,12 @@ pub fn statements_as_printed()
 /// there or not.
 pub fn variables_as_printed()
     ensures printed { (c : Context) (is_constexpr : Bool) (n depth : ℕ) → IsAsPrinted (variable (levels depth) c is_constexpr n) nothing (printed_variable (levels depth) c is_constexpr n) }
+{}
+
+/// Parameters ([dcl.fct]): of a type, or where `auto` may stand of `auto` behind `const` and a constraint, each there or
+/// not, with a name or none. No name stands behind a parameter.
+pub fn parameters_as_printed()
+    ensures printed { (autos : Bool) (c : Context) (n depth : ℕ) → IsAsPrinted (parameter autos (levels depth) c n) any_name (printed_parameter autos (levels depth) c n) }
 {}
 
 /// Requirements ([expr.prim.req.simple] to [expr.prim.req.nested]): no expression begins one with `typename` or
