@@ -20,3 +20,4 @@ pub mod Autos
 pub mod Variables
 pub mod Behind
 pub mod Parameters
+pub mod Functions

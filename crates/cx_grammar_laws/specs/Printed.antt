@@ -1,20 +1,20 @@
 -- Productions as the text of the grammar has them: alternatives, whatever their first tokens are.
-use Rattle.std.specs.Prelude.{Option, None, Some, ℕ, ◌+◌, Bool, true, false, codes}
+use Rattle.std.specs.Prelude.{◌≡◌, Option, None, Some, ℕ, ◌+◌, Bool, true, false, not, codes}
 use Rattle.cx_base.specs.declared.place.Place.{Place}
 use Rattle.cx_scope.specs.Frames.{noted}
 use Rattle.cx_scope.specs.declared.name_kind.NameKind.TheVariants as names
 use Rattle.cx_tree.specs.Trees.{ArgumentTree}
 use Rattle.cx_tree.specs.Statements.{WrittenType, OfType, OfAuto, StmtTree}
-use Rattle.cx_tree.specs.Declarations.{ParameterTree}
+use Rattle.cx_tree.specs.Declarations.{ParameterTree, MemberTree, FieldMember, FunctionMember, DeclTree, ConstantDecl, FunctionDecl}
 use Rattle.cx_grammar.specs.Pieces.{Piece}
 use Rattle.cx_grammar.specs.Production.{give, token}
-use Rattle.cx_grammar.specs.Words.{word, any_name}
+use Rattle.cx_grammar.specs.Words.{word, punct, any_name}
 use Rattle.cx_grammar.specs.Printed.{Relation, trees_of, ◌>>=◌, or, optional}
 use Rattle.cx_grammar.specs.Names.{Context}
 use Rattle.cx_grammar.specs.Types.{Numbered, Below, numbered, type_id}
 use Rattle.cx_grammar.specs.Expressions.{expr, type_argument, value_argument}
-use Rattle.cx_grammar.specs.Statements.{Named, place_or, constraint, auto_behind, typed_variable, constrained_auto, plain_auto, variable, expr_stmt}
-use Rattle.cx_grammar.specs.Declarations.{type_place}
+use Rattle.cx_grammar.specs.Statements.{Named, Within, place_or, constraint, auto_behind, typed_variable, constrained_auto, plain_auto, variable, expr_stmt}
+use Rattle.cx_grammar.specs.Declarations.{type_place, no_specifiers, specifiers, constant_behind, function_behind, is_member_specifier}
 
 -- ---- targ = type | carg, where carg is an expression: within a list it has no assignment, and `>` is no operator
 
@@ -98,3 +98,58 @@ printed_parameter true b c n = or
     (do
       t ← trees_of (token c.load (word (codes "const")))
       maybe_constrained_parameter b c n (Some t.token.at) true))
+
+-- ---- what is declared with a type and a name
+
+-- what stands only where something holds
+abbrev pub where_so : {A : Type 0} → Bool → Relation A → Relation A
+where_so is r = record {
+  whole = λ limit ts behind x. (is ≡ true) × r.whole limit ts behind x;
+  front = λ limit ts. (is ≡ true) × r.front limit ts;
+}
+
+-- ---- in the unit: specs type Name init ";", where `constexpr` is among the specifiers | specs type Name "(" params ")" ...
+
+abbrev pub printed_constant : Within → Context → ℕ → Relation (Named DeclTree)
+printed_constant b c n = do
+  s ← trees_of (specifiers c no_specifiers)
+  of ← trees_of (type_id b.base c n)
+  name ← trees_of (token c.load any_name)
+  where_so s.is_constexpr
+      (do
+        v ← trees_of (constant_behind b.base c s of name)
+        trees_of (give (ConstantDecl v.0, v.1, v.2)))
+
+abbrev pub printed_function : Within → Context → ℕ → Relation (Named DeclTree)
+printed_function b c n = do
+  s ← trees_of (specifiers c no_specifiers)
+  of ← trees_of (type_id b.base c n)
+  name ← trees_of (token c.load any_name)
+  f ← trees_of (function_behind false false b c s of name)
+  trees_of (give (FunctionDecl f.0, f.1, f.2))
+
+unfoldable pub printed_variable_or_function : Within → Context → ℕ → Relation (Named DeclTree)
+printed_variable_or_function b c n = or (printed_constant b c n) (printed_function b c n)
+
+-- ---- in a class: type Name ";" | specs type Name "(" params ")" ..., where `static` is not among the specifiers
+
+abbrev pub printed_field : Within → Context → ℕ → Relation (Named MemberTree)
+printed_field b c n = do
+  s ← trees_of (specifiers c (record { is_inline = false; is_static = true; is_constexpr = false }))
+  of ← trees_of (type_id b.base c n)
+  name ← trees_of (token c.load any_name)
+  where_so (not (is_member_specifier s))
+      (do
+        semicolon ← trees_of (token c.load (punct (codes ";")))
+        trees_of (give (FieldMember (numbered of.1 name.token.at) of.0 name.token.text, of.1 + 1, noted c.names name.token.text names.Value)))
+
+abbrev pub printed_member_function : Bool → Within → Context → ℕ → Relation (Named MemberTree)
+printed_member_function templated b c n = do
+  s ← trees_of (specifiers c (record { is_inline = false; is_static = true; is_constexpr = false }))
+  of ← trees_of (type_id b.base c n)
+  name ← trees_of (token c.load any_name)
+  f ← trees_of (function_behind true templated b c (record s { is_static = false }) of name)
+  trees_of (give (FunctionMember f.0, f.1, f.2))
+
+unfoldable pub printed_field_or_function : Bool → Within → Context → ℕ → Relation (Named MemberTree)
+printed_field_or_function templated b c n = or (printed_field b c n) (printed_member_function templated b c n)

@@ -6,11 +6,11 @@ ghost use Rattle.cx_grammar.specs.Names.{Context};
 ghost use Rattle.cx_grammar.specs.Expressions.{argument, levels, goes_on};
 ghost use Rattle.cx_grammar.specs.Statements.{open_stmt, variable};
 ghost use Rattle.cx_grammar.specs.Words.{any_name};
-ghost use Rattle.cx_grammar.specs.Declarations.{no_piece, parameter};
+ghost use Rattle.cx_grammar.specs.Declarations.{no_piece, parameter, variable_or_function, field_or_function, unit_levels};
 ghost use Rattle.cx_grammar.specs.Printed.{IsAsPrinted};
 ghost use Rattle.cx_grammar_laws.specs.Requires.{requirement, requires_expr};
 ghost use Rattle.cx_grammar_laws.specs.PrintedRequires.{printed_requirement, printed_requires_expr};
-ghost use Rattle.cx_grammar_laws.specs.Printed.{printed_argument, nothing, printed_open_stmt, printed_variable, printed_parameter};
+ghost use Rattle.cx_grammar_laws.specs.Printed.{printed_argument, nothing, printed_open_stmt, printed_variable, printed_parameter, printed_variable_or_function, printed_field_or_function};
 
 /// Template arguments ([temp.arg]): a type or an expression, where what would go on behind a type, `{` or `::`, does not
 /// stand behind it. A scalar is read where its type is within one more construct, so there is one level at least.
@@ -34,6 +34,17 @@ pub fn variables_as_printed()
 /// not, with a name or none. No name stands behind a parameter.
 pub fn parameters_as_printed()
     ensures printed { (autos : Bool) (c : Context) (n depth : ℕ) → IsAsPrinted (parameter autos (levels depth) c n) any_name (printed_parameter autos (levels depth) c n) }
+{}
+
+/// Variables and functions of the unit ([basic.link], [dcl.fct]): a variable, which is constexpr, or a function, each behind
+/// specifiers, a type and its name.
+pub fn variables_and_functions_as_printed()
+    ensures printed { (c : Context) (n depth : ℕ) → IsAsPrinted (variable_or_function (unit_levels depth) c n) nothing (printed_variable_or_function (unit_levels depth) c n) }
+{}
+
+/// Members of a class ([class.mem]): a field, which has no specifiers, or a function, which is not static.
+pub fn fields_and_functions_as_printed()
+    ensures printed { (templated : Bool) (c : Context) (n depth : ℕ) → IsAsPrinted (field_or_function templated (unit_levels depth) c n) nothing (printed_field_or_function templated (unit_levels depth) c n) }
 {}
 
 /// Requirements ([expr.prim.req.simple] to [expr.prim.req.nested]): no expression begins one with `typename` or
