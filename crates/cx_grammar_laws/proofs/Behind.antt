@@ -1,5 +1,5 @@
 -- Relations that are the same where no token of some kind stands behind their trees.
-use Rattle.std.proofs.Common.{◌≡◌, ◌⊎◌, inl, inr, ℕ, Bool, true, false, List, [], sym, subst}
+use Rattle.std.proofs.Common.{◌≡◌, ◌⊎◌, inl, inr, ℕ, Bool, true, false, List, [], sym, subst, ◌∷◌, refl}
 use Rattle.cx_grammar.specs.Pieces.{Piece}
 use Rattle.cx_grammar.specs.Production.{Production, when, begins, Chosen}
 use Rattle.cx_grammar.specs.Printed as relation
@@ -73,6 +73,12 @@ module _ {A B : Type 0} {goes_on : Piece → Bool} (r : Relation A) {f g : A →
       begun_back : (l : ℕ) (ts : List Piece) → (relation.◌>>=◌ r g).front l ts → (relation.◌>>=◌ r f).front l ts
       begun_back l ts (inl k) = inl k
       begun_back l ts (inr (x, us, vs, e, w, k)) = inr (x, us, vs, e, w, (a x).begun_back l vs k)
+
+-- no piece is of a kind that is none
+pub no_kind : (q : Piece → Bool) → ((t : Piece) → q t ≡ false) → (ts : List Piece) → begins q ts ≡ false
+unfolding begins
+no_kind q h [] = refl
+no_kind q h (t ∷ ts) = h t
 
 -- The next token tells two apart: one begins with tokens of a kind, the other never does.
 module _ {A : Type 0} (goes_on q : Piece → Bool) {a b : Production A} (ha : Starts q a) (hb : Apart goes_on q b) (starts : (l : ℕ) → b.front l []) where

@@ -1,5 +1,5 @@
 -- Variables and functions of the unit, and fields and functions of a class, are as they are printed.
-use Rattle.std.proofs.Common.{◌≡◌, ◌⊎◌, inl, inr, ℕ, ◌+◌, Bool, true, false, not, ◌&&◌, List, [], ◌∷◌, codes, refl, sym, ap, true≢false}
+use Rattle.std.proofs.Common.{◌≡◌, ◌⊎◌, inl, inr, ℕ, ◌+◌, Bool, true, false, not, ◌&&◌, List, [], codes, refl, sym, ap, true≢false}
 use Rattle.cx_scope.specs.declared.name_kind.NameKind.TheVariants as names
 use Rattle.cx_scope.specs.Frames.{noted}
 use Rattle.cx_tree.specs.Trees.{TypeTree}
@@ -19,7 +19,7 @@ use Rattle.cx_grammar_laws.specs.Printed.{nothing, where_so, printed_variable_or
 use Rattle.cx_grammar_laws.proofs.Cases.{Any, Never, Avoids, token-Avoids, filled-Avoids, skip-Alike, PrintedWhere, printed_alike, Apart, filled-Apart}
 use Rattle.cx_grammar_laws.proofs.Tokens.{other_punct}
 use Rattle.cx_grammar_laws.proofs.Starting.{Kind, of_token, when-Starts}
-use Rattle.cx_grammar_laws.proofs.Behind.{SameWhere, printed_where, as_printed, next_tells}
+use Rattle.cx_grammar_laws.proofs.Behind.{SameWhere, printed_where, as_printed, next_tells, no_kind}
 
 -- ---- alternatives behind the same
 
@@ -74,11 +74,6 @@ module _ {A B C D : Type 0} (r : Relation A) (s : Relation B) (t : Relation C) w
       behind_or t (f x y) (g x y) (h x y) (a x y)))
 
 -- ---- the next token tells two apart, where something holds; the first stands nowhere else
-
-no_kind : (q : Piece → Bool) → ((t : Piece) → q t ≡ false) → (ts : List Piece) → begins q ts ≡ false
-unfolding begins
-no_kind q h [] = refl
-no_kind q h (t ∷ ts) = h t
 
 module _ {A : Type 0} (goes_on q : Piece → Bool) {a b : Production A} (ha : Starts q a) (hb : Apart goes_on q b) (starts : (l : ℕ) → b.front l []) where
   holds : SameWhere goes_on (or (trees_of a) (trees_of b)) (or (where_so true (trees_of a)) (trees_of b))

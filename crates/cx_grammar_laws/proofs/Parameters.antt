@@ -1,10 +1,9 @@
 -- Parameters are as they are printed.
-use Rattle.std.proofs.Common.{◌≡◌, inl, ℕ, Bool, true, false, ◌&&◌, List, [], ◌∷◌, codes, Option, None, Some, refl}
+use Rattle.std.proofs.Common.{inl, ℕ, Bool, true, false, ◌&&◌, [], codes, Option, None, Some, refl}
 use Rattle.cx_base.specs.declared.place.Place.{Place}
 use Rattle.cx_tree.specs.Statements.{WrittenType, OfType, OfAuto}
 use Rattle.cx_tree.specs.Declarations.{ParameterTree}
-use Rattle.cx_grammar.specs.Pieces.{Piece}
-use Rattle.cx_grammar.specs.Production.{Production, ◌>>=◌, token, begins}
+use Rattle.cx_grammar.specs.Production.{Production, ◌>>=◌, token}
 use Rattle.cx_grammar.specs.Words.{word, any_name}
 use Rattle.cx_grammar.specs.Names.{Context, concept_name}
 use Rattle.cx_grammar.specs.Types.{Numbered, Below, type_id}
@@ -17,7 +16,7 @@ use Rattle.cx_grammar_laws.specs.Printed.{maybe_named, typed_name, constrained_n
 use Rattle.cx_grammar_laws.proofs.Cases.{Any, First, turned, ◌then◌, second-Alike, skip-Alike, PrintedWhere, printed_alike, everywhere, by_first, avoids-Apart, give-Avoids}
 use Rattle.cx_grammar_laws.proofs.Statements.{auto_behind-Starts}
 use Rattle.cx_grammar_laws.proofs.Autos.{constraint-Starts, const_first, type_or_auto}
-use Rattle.cx_grammar_laws.proofs.Behind.{SameWhere, printed_where, as_printed, or_where, behind_where, next_tells}
+use Rattle.cx_grammar_laws.proofs.Behind.{SameWhere, printed_where, as_printed, or_where, behind_where, next_tells, no_kind}
 
 -- a name or none
 behind-Printed : (c : Context) (at : Place) (of : Numbered WrittenType) → PrintedWhere Any any_name (parameter_behind c at of) (maybe_named c at of)
@@ -59,12 +58,6 @@ module _ (b : Below) (c : Context) (n : ℕ) where
   plain-Same : (at : Option Place) (before : Bool) → SameWhere any_name (trees_of (plain at before)) (auto_name c n at before)
   unfolding auto_parameter
   plain-Same at before = behind_where (trees_of (auto_behind c at before None n)) (λ a. as_printed (behind-Printed c a.0.mark.at (OfAuto a.0, a.1)))
-
--- no piece is of a kind that is none
-no_kind : (q : Piece → Bool) → ((t : Piece) → q t ≡ false) → (ts : List Piece) → begins q ts ≡ false
-unfolding begins
-no_kind q h [] = refl
-no_kind q h (t ∷ ts) = h t
 
 module _ (depth : ℕ) (c : Context) (n : ℕ) where
   abbrev b : Below

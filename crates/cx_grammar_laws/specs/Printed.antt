@@ -131,7 +131,8 @@ printed_function b c n = do
 unfoldable pub printed_variable_or_function : Within → Context → ℕ → Relation (Named DeclTree)
 printed_variable_or_function b c n = or (printed_constant b c n) (printed_function b c n)
 
--- ---- in a class: type Name ";" | specs type Name "(" params ")" ..., where `static` is not among the specifiers
+-- ---- in a class: specs type Name ";", where the specifiers are none | specs type Name "(" params ")" ...; `static` is not
+-- among the specifiers
 
 abbrev pub printed_field : Within → Context → ℕ → Relation (Named MemberTree)
 printed_field b c n = do

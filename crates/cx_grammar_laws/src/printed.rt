@@ -36,7 +36,7 @@ pub fn parameters_as_printed()
     ensures printed { (autos : Bool) (c : Context) (n depth : ℕ) → IsAsPrinted (parameter autos (levels depth) c n) any_name (printed_parameter autos (levels depth) c n) }
 {}
 
-/// Variables and functions of the unit ([basic.link], [dcl.fct]): a variable, which is constexpr, or a function, each behind
+/// Variables and functions of the unit ([dcl.dcl], [dcl.fct]): a variable, which is constexpr, or a function, each behind
 /// specifiers, a type and its name.
 pub fn variables_and_functions_as_printed()
     ensures printed { (c : Context) (n depth : ℕ) → IsAsPrinted (variable_or_function (unit_levels depth) c n) nothing (printed_variable_or_function (unit_levels depth) c n) }
