@@ -1,0 +1,78 @@
+-- What the declarations of the code stand for.
+use Rattle.std.specs.Prelude.{map, List, ℕ, Option}
+use Rattle.std.specs.Option.{option_map}
+use Rattle.std.specs.Borrow.{Bor}
+use Rattle.cx_tree.specs.Trees.{mark, expr_tree, type_tree, argument_tree, arguments}
+use Rattle.cx_tree.specs.Declarations as plain
+use Rattle.cx_statements.specs.StatementViews.{constraint_tree, written_type, init_tree, assert_tree, stmt_tree}
+use Rattle.cx_statements.specs.declared.declaration.Decl.{Decl}
+use Rattle.cx_statements.specs.declared.declaration.Decl.TheVariants as decl
+use Rattle.cx_statements.specs.declared.declaration.Specifiers.{Specifiers}
+use Rattle.cx_statements.specs.declared.declaration.FunctionDecl.{FunctionDecl}
+use Rattle.cx_statements.specs.declared.declaration.Parameter.{Parameter}
+use Rattle.cx_statements.specs.declared.declaration.Alias.{Alias}
+use Rattle.cx_statements.specs.declared.declaration.Constant.{Constant}
+use Rattle.cx_statements.specs.declared.declaration.Struct.{Struct}
+use Rattle.cx_statements.specs.declared.declaration.Member.{Member}
+use Rattle.cx_statements.specs.declared.declaration.Member.TheVariants as member
+use Rattle.cx_statements.specs.declared.declaration.TemplateParameter.{TemplateParameter}
+use Rattle.cx_statements.specs.declared.declaration.TemplateParameter.TheVariants as parameter
+use Rattle.cx_statements.specs.declared.declaration.Templated.{Templated}
+use Rattle.cx_statements.specs.declared.declaration.Templated.TheVariants as templated
+
+abbrev pub text_or_none : Option (Bor (List ℕ)) → Option (List ℕ)
+text_or_none name = option_map (λ text. text.now) name
+
+abbrev pub specifiers : Specifiers → plain.Specifiers
+specifiers s = record { is_inline = s.is_inline; is_static = s.is_static; is_constexpr = s.is_constexpr }
+
+abbrev pub parameter_tree : Parameter → plain.ParameterTree
+parameter_tree p = record { mark = mark p.node p.at; type = written_type p.written; name = text_or_none p.name }
+
+abbrev pub function_decl : FunctionDecl → plain.FunctionTree
+function_decl f = record {
+  mark = mark f.node f.at;
+  specifiers = specifiers f.specifiers;
+  result = type_tree f.result;
+  name = f.name.now;
+  parameters = map parameter_tree f.parameters.items;
+  is_const = f.is_const;
+  trailing = option_map expr_tree f.trailing;
+  body = option_map stmt_tree f.body;
+}
+
+abbrev pub alias_tree : Alias → plain.AliasTree
+alias_tree a = record { mark = mark a.node a.at; name = a.name.now; type = type_tree a.of }
+
+abbrev pub constant_tree : Constant → plain.ConstantTree
+constant_tree c = record { mark = mark c.node c.at; specifiers = specifiers c.specifiers; type = type_tree c.of; name = c.name.now; init = init_tree c.init }
+
+abbrev pub member_tree : Member → plain.MemberTree
+member_tree (member.Empty node at) = plain.EmptyMember (mark node at)
+member_tree (member.Alias a) = plain.AliasMember (alias_tree a)
+member_tree (member.Field node at of name) = plain.FieldMember (mark node at) (type_tree of) name.now
+member_tree (member.Constant c) = plain.ConstantMember (constant_tree c)
+member_tree (member.Function f) = plain.FunctionMember (function_decl f)
+
+abbrev pub struct_tree : Struct → plain.StructTree
+struct_tree s = record { mark = mark s.node s.at; name = s.name.now; members = map member_tree s.members.items }
+
+abbrev pub template_parameter : TemplateParameter → plain.TemplateParameterTree
+template_parameter (parameter.Type node at name default) = plain.TypeParameter (mark node at) (text_or_none name) (option_map type_tree default)
+template_parameter (parameter.Constrained node at constraint name default) = plain.ConstrainedParameter (mark node at) (constraint_tree constraint) (text_or_none name) (option_map type_tree default)
+template_parameter (parameter.Value node at scalar name default) = plain.ValueParameter (mark node at) scalar (text_or_none name) (option_map expr_tree default)
+
+abbrev pub templated_tree : Templated → plain.TemplatedTree
+templated_tree (templated.Function f) = plain.FunctionTemplate (function_decl f)
+templated_tree (templated.Struct s) = plain.StructTemplate (struct_tree s)
+templated_tree (templated.Concept node at name condition) = plain.ConceptDefinition (mark node at) name.now (expr_tree condition)
+templated_tree (templated.Specialisation s args) = plain.Specialisation (struct_tree s) (arguments (map argument_tree args.items))
+
+abbrev pub decl_tree : Decl → plain.DeclTree
+decl_tree (decl.Empty node at) = plain.EmptyDecl (mark node at)
+decl_tree (decl.StaticAssert a) = plain.AssertDecl (assert_tree a)
+decl_tree (decl.Alias a) = plain.AliasDecl (alias_tree a)
+decl_tree (decl.Constant c) = plain.ConstantDecl (constant_tree c)
+decl_tree (decl.Function f) = plain.FunctionDecl (function_decl f)
+decl_tree (decl.Struct s) = plain.StructDecl (struct_tree s)
+decl_tree (decl.Template node at parameters clause templated') = plain.TemplateDecl (mark node at) (map template_parameter parameters.items) (option_map expr_tree clause) (templated_tree templated')
