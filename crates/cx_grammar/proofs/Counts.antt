@@ -3,8 +3,7 @@
 use Rattle.std.proofs.Common.{length-append, ◌≡◌, ℕ, zero, suc, ◌+◌, ◌*◌, ◌≤◌, ◌<◌, Bool, true, false, List, [], ◌∷◌, ◌++◌, length, refl, sym, ap, ◌∙◌, subst, append-nil, append_assoc, arith}
 use Rattle.cx_base.specs.declared.place.Place.{Place}
 use Rattle.cx_tree.specs.Trees.{Mark, ExprTree, ArgumentTree, TypeArgument, ValueArgument, exprs, arguments}
-use Rattle.cx_tree.specs.Nodes.{expr_nodes, exprs_nodes, type_nodes, argument_nodes}
-use Rattle.cx_tree.specs.UnitTree.{IsNumberedFrom}
+use Rattle.cx_tree.specs.Nodes.{IsNumberedFrom, expr_nodes, exprs_nodes, type_nodes, argument_nodes}
 use Rattle.cx_grammar.specs.Pieces.{Piece}
 use Rattle.cx_grammar.specs.Production.{Production, give, ◌>>=◌, token, when, given, closed, unbuilt, times, repeat, begins, Chosen}
 use Rattle.cx_grammar.specs.Types.{numbered}

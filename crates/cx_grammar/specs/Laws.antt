@@ -6,7 +6,7 @@ use Rattle.cx_base.specs.declared.kind.Kind.TheVariants as fault
 use Rattle.cx_base.specs.declared.limit.Limit.TheVariants as limits
 use Rattle.cx_lexer.specs.Tokens.{TokenTree}
 use Rattle.cx_tree.specs.Trees.{Mark}
-use Rattle.cx_tree.specs.UnitTree.{IsNumberedFrom}
+use Rattle.cx_tree.specs.Nodes.{IsNumberedFrom}
 use Rattle.cx_grammar.specs.Pieces.{Piece, is_double, pieces}
 use Rattle.cx_grammar.specs.Words.{misfit, refused, word, is_punct_kind}
 use Rattle.cx_grammar.specs.Production.{Production, Stopped, Ended, At}

@@ -11,7 +11,7 @@ use Rattle.cx_grammar.specs.Statements.{Named, stmt}
 use Rattle.cx_grammar.specs.Declarations.{decl, unit, unit_levels}
 use Rattle.cx_grammar.specs.Laws.{Levelled, IsTree, NumberLaws}
 use Rattle.cx_grammar.proofs.Counts.{Yields, Counted}
-use Rattle.cx_grammar_laws.specs.Nodes.{stmt_nodes, decl_nodes}
+use Rattle.cx_tree.specs.UnitNodes.{stmt_nodes, decl_nodes}
 use Rattle.cx_grammar_laws.specs.NodeLaws.{NamedNumberLaws, UnitNumberLaws}
 use Rattle.cx_grammar_laws.proofs.NumbersStatements.{Of, OfNamed, stmt-Yields}
 use Rattle.cx_grammar_laws.proofs.NumbersDeclarations.{OfUnit, decl-Yields, unit-Yields, unit_levels-Counts}

@@ -17,7 +17,7 @@ use Rattle.cx_grammar.specs.Declarations.{unit_levels, specifiers, parameter_beh
 use Rattle.cx_grammar.proofs.Counts.{Yields, give-Yields, then-Yields, take, past, when-Yields, given-Yields, closed-Yields, repeat-Yields, Counted, seq, none, leaf, node, node_ahead, later, sooner, as_list}
 use Rattle.cx_grammar.proofs.NumbersTypes.{OfType, BelowCounts, type_behind-Yields, argument_list-Yields, type_id-Yields}
 use Rattle.cx_grammar.proofs.NumbersExpressions.{levels-Counts, unary-Yields, expr-Yields, clause-Yields}
-use Rattle.cx_grammar_laws.specs.Nodes.{maybe_expr_nodes, maybe_type_nodes, maybe_stmt_nodes, maybe_constraint_nodes, written_nodes, parameter_nodes, function_nodes, alias_nodes, constant_nodes, member_nodes, struct_nodes, template_parameter_nodes, templated_nodes, decl_nodes, unit_nodes}
+use Rattle.cx_tree.specs.UnitNodes.{maybe_expr_nodes, maybe_type_nodes, maybe_stmt_nodes, maybe_constraint_nodes, written_nodes, parameter_nodes, function_nodes, alias_nodes, constant_nodes, member_nodes, struct_nodes, template_parameter_nodes, templated_nodes, decl_nodes, unit_nodes}
 use Rattle.cx_grammar_laws.proofs.Spared.{Spared, ahead, behind, after, paid, flat_one, flat_more}
 use Rattle.cx_grammar_laws.proofs.NumbersBehind.{rests-Yields}
 use Rattle.cx_grammar_laws.proofs.NumbersStatements.{Of, OfNamed, WithinCounts, init-Yields, constraint-Yields, auto_behind-Yields, assertion-Yields, for_head-Yields, block-Yields, bare_stmt-Yields, stmt-Yields}

@@ -13,7 +13,7 @@ use Rattle.cx_grammar.specs.Statements.{Named, Within, with_arguments, concept_e
 use Rattle.cx_grammar.proofs.Counts.{Yields, give-Yields, then-Yields, take, past, when-Yields, repeat-Yields, Counted, seq, none, leaf, node, node_ahead, later, sooner, as_list}
 use Rattle.cx_grammar.proofs.NumbersTypes.{OfExpr, OfType, OfCore', BelowCounts, type_behind-Yields, argument_list-Yields, type_id-Yields}
 use Rattle.cx_grammar.proofs.NumbersExpressions.{expr-Yields}
-use Rattle.cx_grammar_laws.specs.Nodes.{maybe_expr_nodes, constraint_nodes, maybe_constraint_nodes, auto_nodes, init_nodes, variable_nodes, for_init_nodes, assert_nodes, stmt_nodes, stmts_nodes, parameter_nodes, member_nodes, template_parameter_nodes, decl_nodes}
+use Rattle.cx_tree.specs.UnitNodes.{maybe_expr_nodes, constraint_nodes, maybe_constraint_nodes, auto_nodes, init_nodes, variable_nodes, for_init_nodes, assert_nodes, stmt_nodes, stmts_nodes, parameter_nodes, member_nodes, template_parameter_nodes, decl_nodes}
 use Rattle.cx_grammar_laws.proofs.Spared.{Spared, ahead, behind, between, then_more, paid}
 use Rattle.cx_grammar_laws.proofs.NumbersBehind.{exprs_until-Yields, behind_head-Yields, behind_core-Yields, expr_behind-Yields}
 

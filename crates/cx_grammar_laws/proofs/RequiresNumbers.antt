@@ -7,7 +7,7 @@ use Rattle.cx_grammar.specs.Names.{Context, deeper, inside}
 use Rattle.cx_grammar.specs.Types.{Numbered, Below, class_core, type_name_core, qualified_names}
 use Rattle.cx_grammar.proofs.Counts.{Yields, give-Yields, then-Yields, take, past, when-Yields, repeat-Yields, Counted, seq, none, leaf, node, node_ahead, later, sooner, as_list}
 use Rattle.cx_grammar.proofs.NumbersTypes.{OfCore', BelowCounts, argument_list-Yields}
-use Rattle.cx_grammar_laws.specs.Nodes.{parameter_nodes, maybe_constraint_nodes}
+use Rattle.cx_tree.specs.UnitNodes.{parameter_nodes, maybe_constraint_nodes}
 use Rattle.cx_grammar_laws.specs.Requires.{RequirementTree, requirement_nodes, requires_nodes, simple_requirement, maybe_names, required_type, type_requirement, maybe_constraint, compound_requirement, nested_requirement, requirement, more_requirement, requirements, requires_parameters, requires_expr}
 use Rattle.cx_grammar_laws.proofs.Spared.{flat_one, flat_more}
 use Rattle.cx_grammar_laws.proofs.NumbersStatements.{Of, OfNamed, constraint-Yields}

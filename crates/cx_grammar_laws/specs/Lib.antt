@@ -1,4 +1,3 @@
-pub mod Nodes
 pub mod NodeLaws
 pub mod Requires
 pub mod PrintedRequires

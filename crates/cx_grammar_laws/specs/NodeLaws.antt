@@ -4,11 +4,11 @@ use Rattle.cx_lexer.specs.Tokens.{TokenTree}
 use Rattle.cx_scope.specs.Frames.{Frames}
 use Rattle.cx_tree.specs.Trees.{Mark}
 use Rattle.cx_tree.specs.Declarations.{DeclTree}
-use Rattle.cx_tree.specs.UnitTree.{IsNumberedFrom}
+use Rattle.cx_tree.specs.Nodes.{IsNumberedFrom}
 use Rattle.cx_grammar.specs.Pieces.{Piece, pieces}
 use Rattle.cx_grammar.specs.Statements.{Named}
 use Rattle.cx_grammar.specs.Laws.{Levelled, IsTree}
-use Rattle.cx_grammar_laws.specs.Nodes.{unit_nodes}
+use Rattle.cx_tree.specs.UnitNodes.{unit_nodes}
 
 -- The nodes of a tree are numbered from n on without a gap, each behind its parts, and m is the number of the next node:
 -- at most 8 more for each piece, and 16 for each token. The tree comes with the names that are declared behind it.

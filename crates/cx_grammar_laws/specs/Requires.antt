@@ -14,7 +14,7 @@ use Rattle.cx_grammar.specs.Types.{Numbered, Below, numbered, as_type, class_cor
 use Rattle.cx_grammar.specs.Expressions.{place_of}
 use Rattle.cx_grammar.specs.Statements.{Named, with_names, constraint, is_not_closing}
 use Rattle.cx_grammar.specs.Declarations.{parameters}
-use Rattle.cx_grammar_laws.specs.Nodes.{maybe_constraint_nodes, parameter_nodes}
+use Rattle.cx_tree.specs.UnitNodes.{maybe_constraint_nodes, parameter_nodes}
 
 -- ---- trees
 

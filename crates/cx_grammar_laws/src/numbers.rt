@@ -4,7 +4,7 @@ ghost use Rattle.std.specs.Prelude.{ℕ};
 ghost use Rattle.cx_grammar.specs.Names.{Context};
 ghost use Rattle.cx_grammar.specs.Statements.{stmt};
 ghost use Rattle.cx_grammar.specs.Declarations.{decl, unit, unit_levels};
-ghost use Rattle.cx_grammar_laws.specs.Nodes.{stmt_nodes, decl_nodes};
+ghost use Rattle.cx_tree.specs.UnitNodes.{stmt_nodes, decl_nodes};
 ghost use Rattle.cx_grammar_laws.specs.NodeLaws.{NamedNumberLaws, UnitNumberLaws};
 
 /// The nodes of statements ([stmt.stmt]).

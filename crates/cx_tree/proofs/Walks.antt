@@ -4,14 +4,12 @@ use Rattle.std.specs.Prelude.{slice_get}
 use Rattle.std.specs.Option.{option_map}
 use Rattle.std.proofs.lemmas.List.{drop_more, drop_all}
 use Rattle.cx_base.specs.declared.place.Place.{Place}
-use Rattle.cx_tree.specs.declared.function.Function.{Function}
 use Rattle.cx_tree.specs.declared.walk.Walk.{Walk}
 use Rattle.cx_tree.specs.declared.walk.Walk.TheVariants.{Left, Found}
 use Rattle.cx_tree.specs.declared.expression.Expr.{Expr}
 use Rattle.cx_tree.specs.declared.expression.TemplateArgument.{TemplateArgument}
 use Rattle.cx_tree.specs.Trees.{Mark, ArgumentTree, TypeArgument, ValueArgument, ArgumentTrees, no_argument, with_argument, exprs, arguments, expr_tree, argument_tree}
 use Rattle.cx_tree.specs.Nodes.{stepped, walked, expr_nodes, exprs_nodes, type_nodes, argument_nodes}
-use Rattle.cx_tree.specs.UnitTree.{function_tree, function_nodes, unit_nodes}
 
 pub walked_append : (walk : Walk) (ms ns : List Mark) → walked walk (ms ++ ns) ≡ walked (walked walk ms) ns
 walked_append walk [] ns = refl
@@ -20,27 +18,6 @@ walked_append walk (m ∷ ms) ns = walked_append (stepped walk m.at) ms ns
 -- one node behind two parts
 pub two_parts : (w u v r : Walk) (m : Mark) (ps qs nodes : List Mark) → nodes ≡ ps ++ qs ++ m ∷ [] → u ≡ walked w ps → v ≡ walked u qs → r ≡ stepped v m.at → r ≡ walked w nodes
 two_parts w u v r m ps qs nodes is first second own = rw (is, walked_append, walked_append, ← first, ← second) own
-
--- ---- a walk that has found its node, or has not
-
-ended : (at : Place) (ms : List Mark) → walked (Found at) ms ≡ Found at
-ended at [] = refl
-ended at (m ∷ ms) = ended at ms
-
--- a walk that passes over fewer nodes than there are finds its node
-pub finds : (ms : List Mark) (n : ℕ) (at : Place) → walked (Left n) ms ≡ Found at → option_map (λ m. m.at) (slice_get ms n) ≡ Some at
-finds [] n at is = absurd cc
-finds (m ∷ ms) zero at is =
-    let same : m.at ≡ at = let found = sym (ended m.at ms) ∙ is in cc in
-    ap (λ p. Some p) same
-finds (m ∷ ms) (suc n) at is = finds ms n at is
-
-pub passes : (ms : List Mark) (n k : ℕ) → n < length ms → walked (Left n) ms ≡ Left k → ⊥
-passes [] n k below is = omega (arith, below)
-passes (m ∷ ms) zero k below is =
-    let found = sym (ended m.at ms) ∙ is in
-    cc
-passes (m ∷ ms) (suc n) k below is = passes ms n k (omega (arith, below)) is
 
 -- one expression further
 pub next_expr : (es : List Expr) (i : ℕ) (d : Expr) (w v : Walk) → i < length es → v ≡ walked w (expr_nodes (expr_tree (get_or es i d)))
@@ -58,13 +35,3 @@ next_argument as' i d w v below is =
     let here = argument_tree (get_or as' i d) in
     let rest = arguments (map argument_tree (drop (i + 1) as')) in
     rw (drop_more as' i d below, more_argument here rest, walked_append w (argument_nodes (with_argument here no_argument)) (argument_nodes rest), ← is) refl
-
--- one function further
-pub next_function : (fs : List Function) (i : ℕ) (d : Function) (w v : Walk) → i < length fs → v ≡ walked w (function_nodes (function_tree (get_or fs i d)))
-    → walked w (unit_nodes (map function_tree (drop i fs))) ≡ walked v (unit_nodes (map function_tree (drop (i + 1) fs)))
-next_function fs i d w v below is =
-    rw (drop_more fs i d below, walked_append w (function_nodes (function_tree (get_or fs i d))) (unit_nodes (map function_tree (drop (i + 1) fs))), ← is) refl
-
--- no function is left
-pub no_function : (fs : List Function) (i : ℕ) (w : Walk) → length fs ≤ i → walked w (unit_nodes (map function_tree (drop i fs))) ≡ w
-no_function fs i w above = rw (drop_all i fs above) refl

@@ -74,3 +74,17 @@ pub data DeclTree : Type 0 where
   FunctionDecl : FunctionTree → DeclTree
   StructDecl : StructTree → DeclTree
   TemplateDecl : Mark → List TemplateParameterTree → (clause : Option ExprTree) → TemplatedTree → DeclTree
+
+-- a declaration's own node
+abbrev pub decl_mark : DeclTree → Mark
+decl_mark (EmptyDecl m) = m
+decl_mark (AssertDecl a) = a.mark
+decl_mark (AliasDecl a) = a.mark
+decl_mark (ConstantDecl c) = c.mark
+decl_mark (FunctionDecl f) = f.mark
+decl_mark (StructDecl s) = s.mark
+decl_mark (TemplateDecl m parameters clause templated) = m
+
+-- A unit: its declarations in order ([basic.link]).
+abbrev pub UnitTree : Type 0
+UnitTree = List DeclTree

@@ -1,5 +1,5 @@
 pub mod Trees
 pub mod Nodes
-pub mod UnitTree
 pub mod Statements
 pub mod Declarations
+pub mod UnitNodes

@@ -1,5 +1,5 @@
 -- The nodes of a tree.
-use Rattle.std.specs.Prelude.{zero, suc, List, [], ◌∷◌, ◌++◌}
+use Rattle.std.specs.Prelude.{◌≡◌, ◌+◌, ℕ, zero, suc, List, [], ◌∷◌, ◌++◌}
 use Rattle.cx_base.specs.declared.place.Place.{Place}
 use Rattle.cx_tree.specs.declared.walk.Walk.{Walk}
 use Rattle.cx_tree.specs.declared.walk.Walk.TheVariants.{Left, Found}
@@ -47,6 +47,11 @@ abbrev mutual
   argument_nodes no_argument = []
   argument_nodes (and_type t rest) = type_nodes t ++ argument_nodes rest
   argument_nodes (and_value e rest) = expr_nodes e ++ argument_nodes rest
+
+-- The nodes of a list are numbered one after the other from n on.
+abbrev pub IsNumberedFrom : ℕ → List Mark → Type 0
+IsNumberedFrom n [] = Unit {0}
+IsNumberedFrom n (m ∷ ms) = (m.node ≡ n) × IsNumberedFrom (n + 1) ms
 
 -- A walk over nodes to one of them: each node that is passed counts one, until the one is found.
 abbrev pub stepped : Walk → Place → Walk

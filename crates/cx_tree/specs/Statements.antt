@@ -69,3 +69,18 @@ mutual
 abbrev pub stmts : List StmtTree → StmtTrees
 stmts [] = no_stmt
 stmts (s ∷ ss) = and_stmt s (stmts ss)
+
+-- a statement's own node
+abbrev pub stmt_mark : StmtTree → Mark
+stmt_mark (EmptyStmt m) = m
+stmt_mark (Block m ss) = m
+stmt_mark (AssertStmt a) = a.mark
+stmt_mark (Break m) = m
+stmt_mark (Continue m) = m
+stmt_mark (Return m value) = m
+stmt_mark (If m is_constexpr condition then) = m
+stmt_mark (IfElse m is_constexpr condition then otherwise) = m
+stmt_mark (While m condition body) = m
+stmt_mark (For m init condition step body) = m
+stmt_mark (VariableStmt v) = v.mark
+stmt_mark (ExprStmt m e) = m

@@ -9,9 +9,9 @@ use crate::types::{Core, TypeSyn};
 use crate::walk::{Walk, step};
 use cx_base::Place;
 
-/// The nodes of an expression.
+/// Walks over the nodes of an expression: its parts in the order of the text, then its own.
 #[cycle(places)]
-pub(crate) fn walk_expr(expr: &Expr, walk: Walk) -> Walk
+pub fn walk_expr(expr: &Expr, walk: Walk) -> Walk
     ensures { result ≡ walked walk (expr_nodes (expr_tree expr.now)) }
 {
     match expr {
@@ -67,9 +67,9 @@ pub(crate) fn walk_expr(expr: &Expr, walk: Walk) -> Walk
     }
 }
 
-/// The nodes of expressions, in order.
+/// Walks over the nodes of expressions, in order.
 #[cycle(places)]
-fn walk_exprs(items: &[Expr], walk: Walk) -> Walk
+pub fn walk_exprs(items: &[Expr], walk: Walk) -> Walk
     ensures { result ≡ walked walk (exprs_nodes (exprs (map expr_tree items.now))) }
 {
     let mut walk = walk;
@@ -79,15 +79,15 @@ fn walk_exprs(items: &[Expr], walk: Walk) -> Walk
     walk
 }
 
-/// The nodes of a type.
+/// Walks over the nodes of a type.
 #[cycle(places)]
-pub(crate) fn walk_type(syn: &TypeSyn, walk: Walk) -> Walk
+pub fn walk_type(syn: &TypeSyn, walk: Walk) -> Walk
     ensures { result ≡ walked walk (type_nodes (type_tree syn.now)) }
 {
     step(walk_core(&syn.core, walk), syn.at)
 }
 
-/// The nodes in a core, which is none itself.
+/// Walks over the nodes in a core, which is none itself.
 #[cycle(places)]
 fn walk_core(core: &Core, walk: Walk) -> Walk
     ensures { result ≡ walked walk (core_nodes (core_tree core.now)) }
@@ -100,9 +100,9 @@ fn walk_core(core: &Core, walk: Walk) -> Walk
     }
 }
 
-/// The nodes of template arguments, in order.
+/// Walks over the nodes of template arguments, in order.
 #[cycle(places)]
-fn walk_arguments(items: &[TemplateArgument], walk: Walk) -> Walk
+pub fn walk_arguments(items: &[TemplateArgument], walk: Walk) -> Walk
     ensures { result ≡ walked walk (argument_nodes (arguments (map argument_tree items.now))) }
 {
     let mut walk = walk;
@@ -112,7 +112,7 @@ fn walk_arguments(items: &[TemplateArgument], walk: Walk) -> Walk
     walk
 }
 
-/// The nodes of a template argument.
+/// Walks over the nodes of a template argument.
 #[cycle(places)]
 fn walk_argument(argument: &TemplateArgument, walk: Walk) -> Walk
     ensures { result ≡ walked walk (argument_nodes (arguments (argument_tree argument.now ∷ []))) }

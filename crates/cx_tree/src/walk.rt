@@ -5,15 +5,15 @@ use cx_base::Place;
 
 /// A walk over the nodes of a tree to one of them.
 #[derive(Clone, Copy)]
-pub(crate) enum Walk {
+pub enum Walk {
     /// So many nodes stand before it.
     Left(u32),
     /// It is found, at this place.
     Found(Place),
 }
 
-/// One node further, which stands at a place.
-pub(crate) fn step(walk: Walk, at: Place) -> Walk
+/// One node further, which stands at a place. A walk that has found its node stays there.
+pub fn step(walk: Walk, at: Place) -> Walk
     ensures { result ≡ stepped walk at }
 {
     match walk {

@@ -5,7 +5,7 @@ use Rattle.std.specs.List.{flat_map}
 use Rattle.cx_tree.specs.Trees.{Mark, ExprTree, TypeTree}
 use Rattle.cx_tree.specs.Nodes.{expr_nodes, exprs_nodes, type_nodes, argument_nodes}
 use Rattle.cx_tree.specs.Statements.{ConstraintTree, AutoTree, WrittenType, OfType, OfAuto, InitTree, ValueInit, ListInit, VariableTree, ForInit, NoInit, VariableInit, ExprInit, AssertTree, StmtTree, EmptyStmt, Block, AssertStmt, Break, Continue, Return, If, IfElse, While, For, VariableStmt, ExprStmt, StmtTrees, no_stmt, and_stmt}
-use Rattle.cx_tree.specs.Declarations.{ParameterTree, FunctionTree, AliasTree, ConstantTree, MemberTree, EmptyMember, AliasMember, FieldMember, ConstantMember, FunctionMember, StructTree, TemplateParameterTree, TypeParameter, ConstrainedParameter, ValueParameter, TemplatedTree, FunctionTemplate, StructTemplate, ConceptDefinition, Specialisation, DeclTree, EmptyDecl, AssertDecl, AliasDecl, ConstantDecl, FunctionDecl, StructDecl, TemplateDecl}
+use Rattle.cx_tree.specs.Declarations.{ParameterTree, FunctionTree, AliasTree, ConstantTree, MemberTree, EmptyMember, AliasMember, FieldMember, ConstantMember, FunctionMember, StructTree, TemplateParameterTree, TypeParameter, ConstrainedParameter, ValueParameter, TemplatedTree, FunctionTemplate, StructTemplate, ConceptDefinition, Specialisation, DeclTree, EmptyDecl, AssertDecl, AliasDecl, ConstantDecl, FunctionDecl, StructDecl, TemplateDecl, UnitTree}
 
 -- ---- parts that may be left out
 
@@ -120,5 +120,5 @@ decl_nodes (TemplateDecl m ps clause t) = flat_map template_parameter_nodes ps +
 
 -- ---- units
 
-abbrev pub unit_nodes : List DeclTree → List Mark
+abbrev pub unit_nodes : UnitTree → List Mark
 unit_nodes ds = flat_map decl_nodes ds
