@@ -19,6 +19,7 @@ use Rattle.cx_statements.specs.declared.declaration.TemplateParameter.{TemplateP
 use Rattle.cx_statements.specs.declared.declaration.TemplateParameter.TheVariants as parameter
 use Rattle.cx_statements.specs.declared.declaration.Templated.{Templated}
 use Rattle.cx_statements.specs.declared.declaration.Templated.TheVariants as templated
+use Rattle.cx_statements.specs.declared.unit.Unit.{Unit as UnitOfDeclarations}
 
 abbrev pub text_or_none : Option (Bor (List ℕ)) → Option (List ℕ)
 text_or_none name = option_map (λ text. text.now) name
@@ -76,3 +77,6 @@ decl_tree (decl.Constant c) = plain.ConstantDecl (constant_tree c)
 decl_tree (decl.Function f) = plain.FunctionDecl (function_decl f)
 decl_tree (decl.Struct s) = plain.StructDecl (struct_tree s)
 decl_tree (decl.Template node at parameters clause templated') = plain.TemplateDecl (mark node at) (map template_parameter parameters.items) (option_map expr_tree clause) (templated_tree templated')
+
+abbrev pub unit_tree : UnitOfDeclarations → plain.UnitTree
+unit_tree u = map decl_tree u.declarations.items

@@ -1,0 +1,10 @@
+use Rattle.std.proofs.Common.{sym, ◌∙◌}
+use Rattle.cx_tree.specs.UnitNodes.{parameter_nodes}
+use Rattle.cx_statements.specs.DeclarationViews.{parameter_tree}
+use Rattle.cx_statements.proofs.Walks.{next_part}
+use Rattle.cx_statements.proofs.functions.walk_parameters.Goals as goal
+
+pub loop-item-preserved : goal.loop-item-preserved
+loop-item-preserved c =
+    let item = rw c.item-item.is at c.walk_parameter-walk.ensures in
+    sym (next_part parameter_nodes parameter_tree c.args.items.now c.loop-item.item-index c.item-item.result c.loop-item.walk c.walk_parameter-walk.result c.loop-item-test.true item) ∙ c.loop-item.invariant
