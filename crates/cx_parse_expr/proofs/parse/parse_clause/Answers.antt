@@ -20,7 +20,7 @@ returns-in_err-clause-clause-exact c =
     let answers = (c.laws_of_clauses.ensures.laws at c.args.ids.now.next).answers load_limit (264 - (c.args.load + 1)) rest (omega (arith, c.requires.load)) (omega (arith, c.requires.load)) in
     let stops = moved (Stops c.in_err-clause.field-0.0) (λ (k : Context) (n : ℕ) (ts : List Piece). (clause (below k) k n).read load_limit ts) (context_of c.context.result) at c.spot_at-spot.result.next c.args.ids.now.next (left_at c.spot_at-spot.result) rest c.context.ensures.same c.spot_at-spot.ensures.next c.spot_at-spot.ensures.left c.in_err-clause.ensures.exact in
     let p = err_from_is_err_and c.from_residual.result c.from_residual.ensures.1 in
-    rw (p.1, p.2) (_, answers, stops)
+    rw (p.1, p.2) (264 - (c.args.load + 1), answers, stops)
 
 pub index_of-requires : goal.index_of-requires
 index_of-requires c =
@@ -36,4 +36,4 @@ returns-clause-exact c =
     let rest = pieces (drop c.args.from (map token_tree c.args.tokens.now)) in
     let answers = (c.laws_of_clauses.ensures.laws at c.args.ids.now.next).answers load_limit (264 - (c.args.load + 1)) rest (omega (arith, c.requires.load)) (omega (arith, c.requires.load)) in
     let read = moved (λ (r : Result (Numbered ExprTree × List Piece) Stopped). r ≡ Ok ((expr_tree c.in_ok-clause.clause, c.in_ok-clause.behind.next), left_at c.in_ok-clause.behind)) (λ (k : Context) (n : ℕ) (ts : List Piece). (clause (below k) k n).read load_limit ts) (context_of c.context.result) at c.spot_at-spot.result.next c.args.ids.now.next (left_at c.spot_at-spot.result) rest c.context.ensures.same c.spot_at-spot.ensures.next c.spot_at-spot.ensures.left c.in_ok-clause.ensures.exact in
-    (_, answers, read ∙ ap (λ (left : List Piece). Ok ((expr_tree c.in_ok-clause.clause, c.in_ok-clause.behind.next), left)) c.index_of.ensures.left)
+    (264 - (c.args.load + 1), answers, read ∙ ap (λ (left : List Piece). Ok ((expr_tree c.in_ok-clause.clause, c.in_ok-clause.behind.next), left)) c.index_of.ensures.left)
