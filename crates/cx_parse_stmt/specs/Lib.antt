@@ -1,0 +1,4 @@
+pub mod Views
+pub mod Within
+pub mod Parts
+pub mod Parses
