@@ -9,6 +9,7 @@ use Rattle.cx_grammar.specs.Pieces.{Piece, Half, First, Second}
 use Rattle.cx_grammar.specs.Words.{is_word_kind, is_punct_kind, is_int_kind, is_name_kind, is_all, is_first, is_second, word, punct, any_name, literal_token, second_half, spelling}
 use Rattle.cx_grammar.specs.Names.{Context, kind_name}
 use Rattle.cx_grammar.specs.Types.{closes, one_word}
+use Rattle.cx_grammar.specs.Statements.{is_string_kind, string_token}
 use Rattle.cx_grammar.specs.Expressions.{is_prefix, is_step, is_punct, is_hidden, binary_of, has_level, operator_of, is_operator, assignment_of, is_assignment}
 use Rattle.cx_grammar.specs.Declarations.{is_end_kind}
 use Rattle.cx_grammar.specs.Production.{Production, give, ◌>>=◌, token, when, given, closed, unbuilt, times, repeat, begins, Chosen}
@@ -55,6 +56,10 @@ int_kind : (k : TokenKind) → is_int_kind k ≡ true → is_end_kind k ≡ fals
 int_kind kind.Int e = refl
 int_kind other e = absurd (true≢false (sym e))
 
+string_kind : (k : TokenKind) → is_string_kind k ≡ true → is_end_kind k ≡ false
+string_kind kind.Str e = refl
+string_kind other e = absurd (true≢false (sym e))
+
 punct_kind : (k : TokenKind) → is_punct_kind k ≡ true → is_end_kind k ≡ false
 punct_kind kind.Punct e = refl
 punct_kind other e = absurd (true≢false (sym e))
@@ -85,6 +90,10 @@ any_name-Other = record { other = λ t e. no_end t.token.kind (is_all t.half) (n
 pub literal_token-Other : IsOther literal_token
 unfolding literal_token
 literal_token-Other = record { other = λ t e. no_end t.token.kind (is_all t.half) (int_kind t.token.kind (left_true (is_int_kind t.token.kind) _ e)) }
+
+pub string_token-Other : IsOther string_token
+unfolding string_token
+string_token-Other = record { other = λ t e. no_end t.token.kind (is_all t.half) (string_kind t.token.kind e) }
 
 pub punct-Other : (text : List ℕ) → IsOther (punct text)
 unfolding punct

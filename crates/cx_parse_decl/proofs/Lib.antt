@@ -3,6 +3,7 @@ pub mod Numbers
 pub mod Endless
 pub mod EndlessTypes
 pub mod EndlessExpressions
+pub mod EndlessStatements
 pub mod Ends
 pub mod Readings
 pub mod Parsing

@@ -3,41 +3,30 @@ use Rattle.std.proofs.Common.{inl, inr, ◌≡◌, ◌≤◌, ◌⊎◌, ℕ, tr
 use Rattle.cx_base.specs.Refusal.{Refusal}
 use Rattle.cx_lexer.specs.Division.{EndsOnce, AreSpelled}
 use Rattle.cx_lexer.specs.Tokens.{TokenTree}
-use Rattle.cx_tree.specs.UnitTree.{UnitTree}
+use Rattle.cx_tree.specs.Declarations.{UnitTree}
 use Rattle.cx_grammar.specs.Pieces.{Piece, halves, pieces}
 use Rattle.cx_grammar.specs.Production.{Production, Stopped, give, ◌>>=◌, token, repeat}
 use Rattle.cx_grammar.specs.Words.{word}
 use Rattle.cx_grammar.specs.Names.{Context}
 use Rattle.cx_scope.specs.Frames.{entered}
-use Rattle.cx_grammar.specs.Types.{Below}
-use Rattle.cx_grammar.specs.Expressions.{levels}
-use Rattle.cx_grammar.specs.Statements.{Named}
-use Rattle.cx_grammar.specs.Declarations.{is_end_kind, is_not_end}
+use Rattle.cx_grammar.specs.Statements.{Named, Within}
+use Rattle.cx_grammar.specs.Declarations.{unit_levels, is_end_kind, is_not_end}
 use Rattle.cx_grammar.specs.Laws.{IsTreeWithin, BeginsWithin, IsTree, Begins, Farthest, IsFaultAt, Answers, Tree, Fault, TooDeep, Short}
-use Rattle.cx_grammar.proofs.Expressions.{levels-Grows}
 use Rattle.cx_grammar.proofs.GrammarLaws.{front_first}
-use Rattle.cx_parse_decl.specs.Functions.{return_of, body, function, more_function, outermost, unit, is_end}
+use Rattle.cx_parse_decl.specs.Functions.{function, more_function, outermost, unit, is_end}
 use Rattle.cx_parse_decl.specs.Units.{load_limit, depth, units, IsUnit, IsFaultOf, IsMisfit, IsTooDeep, answer, unit_at}
 use Rattle.cx_parse_decl.proofs.Endless.{Endless, has_last, last_parts, repeat-Endless}
-use Rattle.cx_parse_decl.proofs.EndlessTypes.{BelowEndless, endlessness}
-use Rattle.cx_parse_decl.proofs.EndlessExpressions.{levels-Endless, expr-Endless}
+use Rattle.cx_parse_decl.proofs.EndlessTypes.{endlessness}
+use Rattle.cx_parse_decl.proofs.EndlessStatements.{WithinEndless, unit_levels-Endless, block-Endless}
 use Rattle.cx_parse_decl.proofs.Ends.{Closes, pieces_close, closes_last, nothing_behind, OfToken, of_token}
-use Rattle.cx_parse_decl.proofs.Units.{unit-Grows, unit_laws}
+use Rattle.cx_parse_decl.proofs.Units.{units-Grows, unit_laws}
 
 -- ---- the end of a unit
 
-module _ {b : Below} (h : BelowEndless b) where
-  return_of-Endless : (c : Context) (n : ℕ) → Endless (return_of b c n)
-  unfolding return_of
-  return_of-Endless c n = search (endlessness, expr-Endless) depth 13
-
-  body-Endless : (c : Context) (n : ℕ) → Endless (body b c n)
-  unfolding body
-  body-Endless c n = search (endlessness, return_of-Endless) depth 13
-
+module _ {b : Within} (h : WithinEndless b) where
   function-Endless : (c : Context) (n : ℕ) → Endless (function b c n)
   unfolding function
-  function-Endless c n = search (endlessness, body-Endless) depth 13
+  function-Endless c n = search (endlessness, block-Endless h) depth 13
 
   more_function-Endless : (c : Context) (so_far : Named UnitTree) → Endless (more_function b c so_far)
   unfolding more_function
@@ -75,11 +64,11 @@ module _ {A B : Type 0} (p : Production A) (f : A → B) where
   begun h l us last (inr (x, vs, ws, e, w, inr (t, as', bs, e', k, none))) =
       (f x, (x, vs, ws, e, subst (λ (z : List Piece). p.whole l vs z x) (sym (append-nil ws)) w, (t, as', bs, e', k, (none, refl))))
 
-unit_closed : (b : Below) (l : ℕ) (us rest : List Piece) (u : UnitTree) → (unit b).whole l us rest u → Closed us
+unit_closed : (b : Within) (l : ℕ) (us rest : List Piece) (u : UnitTree) → (unit b).whole l us rest u → Closed us
 unfolding unit
 unit_closed b l us rest u w = closed_by (repeat is_not_end (more_function b outermost) ([], 0, entered [])) (λ (x : Named UnitTree). x.0) l us rest u w
 
-unit_begun : {b : Below} → BelowEndless b → (l : ℕ) (us : List Piece) → has_last us ≡ true → (unit b).front l us → (u : UnitTree) × (unit b).whole l us [] u
+unit_begun : {b : Within} → WithinEndless b → (l : ℕ) (us : List Piece) → has_last us ≡ true → (unit b).front l us → (u : UnitTree) × (unit b).whole l us [] u
 unfolding unit
 unit_begun {b} h l us last k = begun (repeat is_not_end (more_function b outermost) ([], 0, entered [])) (λ (x : Named UnitTree). x.0) (repeat-Endless is_not_end (more_function-Endless h outermost) ([], 0, entered [])) l us last k
 
@@ -87,15 +76,15 @@ unit_begun {b} h l us last k = begun (repeat is_not_end (more_function b outermo
 
 -- beginnings under the limit
 first_within : (us vs : List Piece) → BeginsWithin load_limit units (us ++ vs) → BeginsWithin load_limit units us
-first_within us vs k = record { level = k.level; front = front_first (units k.level) (unit-Grows (levels-Grows k.level)).low load_limit us vs k.front }
+first_within us vs k = record { level = k.level; front = front_first (units k.level) (units-Grows k.level).low load_limit us vs k.front }
 
 tree_begins : (us : List Piece) (u : UnitTree) → IsTreeWithin load_limit units us u → BeginsWithin load_limit units us
-tree_begins us u t = record { level = t.level; front = (unit-Grows (levels-Grows t.level)).low.whole_front load_limit us [] u t.whole }
+tree_begins us u t = record { level = t.level; front = (units-Grows t.level).low.whole_front load_limit us [] u t.whole }
 
 -- what a unit's pieces end with is their end
 no_rest : (ps us rest : List Piece) (u : UnitTree) → Closes ps → ps ≡ us ++ rest → IsTreeWithin load_limit units us u → rest ≡ []
 no_rest ps us rest u c e t =
-    let k = unit_closed (levels t.level) load_limit us [] u t.whole in
+    let k = unit_closed (unit_levels t.level) load_limit us [] u t.whole in
     nothing_behind k.front k.last rest c.front c.last k.closes c.others (sym (ap (λ (z : List Piece). z ++ rest) k.parts) ∙ (sym e ∙ c.parts))
 
 found_by : (ts : List TokenTree) (u : UnitTree) (r : Result (UnitTree × List Piece) Stopped) → Closes (pieces ts) → answer r ≡ Ok u → Answers load_limit units (pieces ts) r → IsUnit ts u
@@ -175,7 +164,7 @@ stops_by ts r m c e (Fault us t rest q d is far k none) =
 stops_by ts r m c e (TooDeep us t rest d split k begins deep) =
     inr (record { front = us; piece = t; behind = rest; parts = split; passed = cc; before = k; begins = begins; too_deep = deep })
 stops_by ts r m c e (Short d k none) =
-    let w = unit_begun (levels-Endless k.level) load_limit (pieces ts) (closes_last (pieces ts) c) k.front in
+    let w = unit_begun (unit_levels-Endless k.level) load_limit (pieces ts) (closes_last (pieces ts) c) k.front in
     absurd (none w.0 (load_limit, record { level = k.level; whole = w.1 }))
 
 pub unit_stops : (ts : List TokenTree) (r : Refusal) → EndsOnce ts → AreSpelled ts → unit_at ts ≡ Err r → IsMisfit ts r ⊎ IsTooDeep ts r

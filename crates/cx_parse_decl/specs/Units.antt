@@ -5,11 +5,11 @@ use Rattle.cx_base.specs.declared.kind.Kind.TheVariants as fault
 use Rattle.cx_base.specs.declared.limit.Limit.TheVariants as limits
 use Rattle.cx_lexer.specs.Places.{start}
 use Rattle.cx_lexer.specs.Tokens.{TokenTree, end_at}
-use Rattle.cx_tree.specs.UnitTree.{UnitTree}
+use Rattle.cx_tree.specs.Declarations.{UnitTree}
 use Rattle.cx_grammar.specs.Pieces.{Piece, as_piece, All, pieces}
 use Rattle.cx_grammar.specs.Words.{misfit, refused, word}
 use Rattle.cx_grammar.specs.Production.{Stopped, At}
-use Rattle.cx_grammar.specs.Expressions.{levels}
+use Rattle.cx_grammar.specs.Declarations.{unit_levels}
 use Rattle.cx_grammar.specs.Laws.{Levelled, IsTreeWithin, BeginsWithin, Begins}
 use Rattle.cx_parse_decl.specs.Functions.{unit}
 
@@ -17,13 +17,13 @@ use Rattle.cx_parse_decl.specs.Functions.{unit}
 abbrev pub load_limit : ℕ
 load_limit = 256
 
--- How deep the reader of units goes within their statements: more than loads up to the limit leave.
+-- How deep the reader of units goes within their bodies: more than loads up to the limit leave.
 abbrev pub depth : ℕ
-depth = 260
+depth = 262
 
--- Units, however deep the constructs within their statements are nested.
+-- Units, however deep the constructs within their bodies are nested.
 abbrev pub units : Levelled UnitTree
-units level = unit (levels level)
+units level = unit (unit_levels level)
 
 -- The tokens are a unit, of no load above the limit.
 abbrev pub IsUnit : List TokenTree → UnitTree → Type 0

@@ -1,24 +1,7 @@
--- Units of functions as units of the whole grammar.
-use Rattle.std.specs.Prelude.{false, List, [], ◌∷◌, None, Some}
-use Rattle.cx_tree.specs.Statements.{Return, Block, stmts}
-use Rattle.cx_tree.specs.Declarations.{DeclTree, FunctionDecl}
-use Rattle.cx_tree.specs.UnitTree.{FunctionTree}
-use Rattle.cx_grammar.specs.Declarations.{no_specifiers, unit, unit_levels}
+-- The units of the whole grammar, of which units of functions are some.
+use Rattle.cx_tree.specs.Declarations.{UnitTree}
+use Rattle.cx_grammar.specs.Declarations.{unit, unit_levels}
 use Rattle.cx_grammar.specs.Laws.{Levelled}
 
--- The units of the whole grammar.
-abbrev pub whole_units : Levelled (List DeclTree)
+abbrev pub whole_units : Levelled UnitTree
 whole_units level = unit (unit_levels level)
-
--- The declaration that a function is there.
-abbrev pub declaration : FunctionTree → DeclTree
-declaration f = FunctionDecl (record {
-  mark = f.mark;
-  specifiers = no_specifiers;
-  result = f.type;
-  name = f.name;
-  parameters = [];
-  is_const = false;
-  trailing = None;
-  body = Some (Block f.body (stmts (Return f.statement (Some f.value) ∷ [])));
-})

@@ -1,14 +1,16 @@
 //! The laws of units of functions: each is the contract of a function that does nothing.
 
-ghost use Rattle.std.specs.Prelude.{◌≡◌, ◌≤◌, ◌*◌, ◌⊎◌, ℕ, List, length, map, Ok, Err};
+ghost use Rattle.std.specs.Prelude.{◌≡◌, ◌≤◌, ◌*◌, ◌⊎◌, ℕ, List, length, Ok, Err};
 ghost use Rattle.cx_base.specs.Refusal.{Refusal};
 ghost use Rattle.cx_lexer.specs.Division.{EndsOnce, AreSpelled};
 ghost use Rattle.cx_lexer.specs.Tokens.{TokenTree};
-ghost use Rattle.cx_tree.specs.UnitTree.{UnitTree, IsNumberedFrom, unit_nodes};
+ghost use Rattle.cx_tree.specs.Declarations.{UnitTree};
+ghost use Rattle.cx_tree.specs.Nodes.{IsNumberedFrom};
+ghost use Rattle.cx_tree.specs.UnitNodes.{unit_nodes};
 ghost use Rattle.cx_grammar.specs.Laws.{GrammarLaws, WholeTokens, IsTree, IsTreeWithin};
 ghost use Rattle.cx_grammar.specs.Pieces.{Piece, pieces};
 ghost use Rattle.cx_parse_decl.specs.Units.{units, IsUnit, IsMisfit, IsTooDeep, unit_at};
-ghost use Rattle.cx_parse_decl.specs.Whole.{whole_units, declaration};
+ghost use Rattle.cx_parse_decl.specs.Whole.{whole_units};
 
 /// Units of functions ([basic.link], [dcl.fct.def]).
 pub fn laws_of_functions()
@@ -16,7 +18,7 @@ pub fn laws_of_functions()
     ensures tokens { WholeTokens units }
 
     // Each is a unit of the whole grammar, with no load above the same limit.
-    ensures whole { (limit : ℕ) (ts : List Piece) (u : UnitTree) → IsTreeWithin limit units ts u → IsTreeWithin limit whole_units ts (map declaration u) }
+    ensures whole { (limit : ℕ) (ts : List Piece) (u : UnitTree) → IsTreeWithin limit units ts u → IsTreeWithin limit whole_units ts u }
 {}
 
 /// What the tokens of a unit are.

@@ -7,6 +7,3 @@ mod unit;
 
 pub use laws::{laws_of_functions, one_unit};
 pub use unit::parse_unit;
-
-#[cfg(test)]
-mod tests;

@@ -5,9 +5,8 @@ ghost use Rattle.cx_base.specs.Refusal as refusals;
 ghost use Rattle.cx_lexer.specs.Division.{EndsOnce, AreSpelled};
 ghost use Rattle.cx_lexer.specs.Tokens.{token_tree};
 ghost use Rattle.cx_scope.specs.Frames.{entered};
-ghost use Rattle.cx_tree.specs.UnitTree.{unit_tree, function_tree};
-ghost use Rattle.cx_grammar.specs.Declarations.{is_end_kind, is_not_end};
-ghost use Rattle.cx_grammar.specs.Expressions.{levels};
+ghost use Rattle.cx_statements.specs.DeclarationViews.{decl_tree, unit_tree};
+ghost use Rattle.cx_grammar.specs.Declarations.{unit_levels, is_end_kind, is_not_end};
 ghost use Rattle.cx_grammar.specs.Production.{Gives, begins, repeat};
 ghost use Rattle.cx_spots.specs.Spots.{Lightens, weight, left_at};
 ghost use Rattle.cx_parse_decl.specs.Functions.{more_function, outermost};
@@ -19,7 +18,7 @@ use cx_base::Stop;
 use cx_lexer::{Token, TokenKind};
 use cx_scope::Scope;
 use cx_spots::{Read, Spot};
-use cx_tree::{Function, Unit};
+use cx_statements::{Decl, Unit};
 use std::alloc::Global;
 
 /// Whether a kind is that of the end.
@@ -42,12 +41,12 @@ fn is_end(spot: Spot<'_, '_>) -> bool
 fn one_more<'t, 's>(
     alloc: Global,
     scope: &mut Scope<'s>,
-    so_far: Vec<Function<'s>>,
+    so_far: Vec<Decl<'s>>,
     spot: Spot<'t, 's>,
-) -> Read<'t, 's, Vec<Function<'s>>>
+) -> Read<'t, 's, Vec<Decl<'s>>>
     requires scope { 0 < length scope.old }
     requires room { weight spot < 2 ^ 32 }
-    ensures exact { Gives (λ x. ((map function_tree x.0.items, x.1.next, scope.new), left_at x.1)) result ((more_function (levels depth) outermost (map function_tree so_far.entry.items, spot.entry.next, scope.old)).read 256 (left_at spot.entry)) }
+    ensures exact { Gives (λ x. ((map decl_tree x.0.items, x.1.next, scope.new), left_at x.1)) result ((more_function (unit_levels depth) outermost (map decl_tree so_far.entry.items, spot.entry.next, scope.old)).read 256 (left_at spot.entry)) }
     ensures lightens { Lightens 16 spot.entry result }
     ensures counts { IfOk result (λ x. (spot.entry.next < x.1.next) × (length x.0.items ≡ length so_far.entry.items + 1)) }
     ensures scope { IfOk result (λ x. 0 < length scope.new) }
@@ -63,14 +62,14 @@ fn functions<'t, 's>(
     alloc: Global,
     scope: &mut Scope<'s>,
     spot: Spot<'t, 's>,
-) -> Read<'t, 's, Vec<Function<'s>>>
+) -> Read<'t, 's, Vec<Decl<'s>>>
     requires scope { 0 < length scope.old }
     requires room { weight spot < 2 ^ 32 }
-    ensures exact { Gives (λ x. ((map function_tree x.0.items, x.1.next, scope.new), left_at x.1)) result ((repeat is_not_end (more_function (levels depth) outermost) ([], spot.entry.next, scope.old)).read 256 (left_at spot.entry)) }
+    ensures exact { Gives (λ x. ((map decl_tree x.0.items, x.1.next, scope.new), left_at x.1)) result ((repeat is_not_end (more_function (unit_levels depth) outermost) ([], spot.entry.next, scope.old)).read 256 (left_at spot.entry)) }
     ensures counts { IfOk result (λ x. length x.0.items ≤ weight spot.entry) }
     ensures here { IfOk result (λ x. AtEnd (left_at x.1)) }
 {
-    let mut functions: Vec<Function<'s>> = Vec::new(alloc);
+    let mut functions: Vec<Decl<'s>> = Vec::new(alloc);
     let mut spot = spot;
     'functions: while !is_end(spot) {
         let (more, behind) = one_more(alloc, scope, functions, spot)?;
@@ -94,6 +93,6 @@ pub fn parse_unit<'s>(alloc: Global, tokens: &[Token<'s>]) -> Result<Unit<'s>, S
 {
     let mut scope = Scope::new(alloc);
     scope.enter()?;
-    let (functions, _) = functions(alloc, &mut scope, Spot::before(tokens, 0))?;
-    Ok(Unit { functions })
+    let (declarations, _) = functions(alloc, &mut scope, Spot::before(tokens, 0))?;
+    Ok(Unit { declarations })
 }
