@@ -24,10 +24,11 @@ use Rattle.cx_tree.specs.declared.operators.UnaryOperator.TheVariants as unary
 use Rattle.cx_tree.specs.declared.operators.BinaryOperator.{BinaryOperator}
 use Rattle.cx_tree.specs.declared.operators.BinaryOperator.TheVariants as binary
 use Rattle.cx_tree.specs.Trees.{ExprTree, IntTree, BoolTree, NameTree, TemplateTree, QualifiedTree, ListTree, GroupTree, StaticCastTree, IsSameTree, OutTree, MemberTree, CallTree, PostfixTree, UnaryTree, BinaryTree, ConditionalTree, AssignmentTree}
-use Rattle.cx_tree.specs.UnitTree.{FunctionTree, UnitTree}
-use Rattle.cx_engine.specs.Forms.{Mention, mention_of, is_int_literal, is_built_unary, plain_operator, first_of, unbuilt_in, unbuilt_type, unbuilt_function, first_unbuilt, is_built, forms_unit}
+use Rattle.cx_tree.specs.Declarations.{UnitTree}
+use Rattle.cx_engine.specs.Definitions.{Definition}
+use Rattle.cx_engine.specs.Forms.{Mention, mention_of, is_int_literal, is_built_unary, plain_operator, first_of, unbuilt_in, forms_unit}
 use Rattle.cx_engine.specs.Names.{Declared, declared, declaration_of, number_of, is_new, is_known, calls_in, names_called, names_function, names_functions}
-use Rattle.cx_engine.proofs.FormsLemmas.{forms_pass}
+use Rattle.cx_engine.proofs.FormsLemmas.{both as first_none, AreBuilt, forms_built}
 use Rattle.cx_engine.specs.Plain.{unbuilt, plain_call, plain_unary, plain_binary, plain_expr, plain_function}
 use Rattle.cx_engine.specs.SourceMeaning.{function_named, unary_meaning, binary_meaning, call_of, value_meaning, body_meaning, call_meaning, meaning}
 
@@ -109,19 +110,19 @@ resolved_split names (c ∷ cs) ds all =
     ((all.0, rest.0), rest.1)
 
 -- one function is found, and then the others
-first_found : (names : List Declared) (f : FunctionTree) (fs : List FunctionTree) → names_functions names (f ∷ fs) ≡ Ok tt
+first_found : (names : List Declared) (f : Definition) (fs : List Definition) → names_functions names (f ∷ fs) ≡ Ok tt
     → (declaration_of f.name names ≡ None) × (names_called (names ++ declared f ∷ []) (calls_in f.value) ≡ Ok tt) × (names_functions (names ++ declared f ∷ []) fs ≡ Ok tt)
 unfolding names_functions names_function
 first_found names f fs e =
     let a = bind_ok (names_function names f) (λ _. names_functions (names ++ declared f ∷ []) fs) tt e in
-    let b = bind_ok (is_new f.mark.at (declaration_of f.name names)) (λ _. names_called (names ++ declared f ∷ []) (calls_in f.value)) a.0 a.1 in
-    let new : is_new f.mark.at (declaration_of f.name names) ≡ Ok tt = b.1 in
-    (new_name f.mark.at (declaration_of f.name names) new, b.2, a.2)
+    let b = bind_ok (is_new f.at (declaration_of f.name names)) (λ _. names_called (names ++ declared f ∷ []) (calls_in f.value)) a.0 a.1 in
+    let new : is_new f.at (declaration_of f.name names) ≡ Ok tt = b.1 in
+    (new_name f.at (declaration_of f.name names) new, b.2, a.2)
 
-behind : (names : List Declared) (f : FunctionTree) (fs : List FunctionTree) → (names ++ declared f ∷ []) ++ map declared fs ≡ names ++ map declared (f ∷ fs)
+behind : (names : List Declared) (f : Definition) (fs : List Definition) → (names ++ declared f ∷ []) ++ map declared fs ≡ names ++ map declared (f ∷ fs)
 behind names f fs = append_assoc names (declared f ∷ []) (map declared fs)
 
-pub all_resolved : (names : List Declared) (fs : List FunctionTree) → names_functions names fs ≡ Ok tt → AllByRecursion (λ f. IsResolved (names ++ map declared fs) (calls_in f.value)) fs
+pub all_resolved : (names : List Declared) (fs : List Definition) → names_functions names fs ≡ Ok tt → AllByRecursion (λ f. IsResolved (names ++ map declared fs) (calls_in f.value)) fs
 all_resolved names [] e = tt
 all_resolved names (f ∷ fs) e =
     let found = first_found names f fs e in
@@ -129,13 +130,13 @@ all_resolved names (f ∷ fs) e =
     let later = all_resolved (names ++ declared f ∷ []) fs found.2 in
     subst (λ (all : List Declared). IsResolved all (calls_in f.value) × AllByRecursion (λ g. IsResolved all (calls_in g.value)) fs) (behind names f fs) (here, later)
 
-pub own_number : (names : List Declared) (fs : List FunctionTree) (k : ℕ) (f : FunctionTree) → names_functions names fs ≡ Ok tt → slice_get fs k ≡ Some f → number_of f.name (names ++ map declared fs) ≡ Some (length names + k)
+pub own_number : (names : List Declared) (fs : List Definition) (k : ℕ) (f : Definition) → names_functions names fs ≡ Ok tt → slice_get fs k ≡ Some f → number_of f.name (names ++ map declared fs) ≡ Some (length names + k)
 own_number names [] k f e at = absurd cc
 own_number names (g ∷ gs) zero f e at =
     let found = first_found names g gs e in
     let here : number_of g.name (map declared (g ∷ gs)) ≡ Some 0 = rw (same-self g.name) refl in
     let is : g ≡ f = cc in
-    subst (λ (h : FunctionTree). number_of h.name (names ++ map declared (g ∷ gs)) ≡ Some (length names + 0)) is (number_of-behind g.name names (map declared (g ∷ gs)) 0 found.0 here)
+    subst (λ (h : Definition). number_of h.name (names ++ map declared (g ∷ gs)) ≡ Some (length names + 0)) is (number_of-behind g.name names (map declared (g ∷ gs)) 0 found.0 here)
 own_number names (g ∷ gs) (suc k) f e at =
     let found = first_found names g gs e in
     let later = own_number (names ++ declared g ∷ []) gs k f found.2 at in
@@ -144,7 +145,7 @@ own_number names (g ∷ gs) (suc k) f e at =
 
 -- ---- the number of a name is that of its function
 
-named_step : (b : Bool) (f : FunctionTree) (o : Option FunctionTree) (fs : List FunctionTree) (r : Option ℕ) (j : ℕ) → ((i : ℕ) → r ≡ Some i → o ≡ slice_get fs i)
+named_step : (b : Bool) (f : Definition) (o : Option Definition) (fs : List Definition) (r : Option ℕ) (j : ℕ) → ((i : ℕ) → r ≡ Some i → o ≡ slice_get fs i)
     → cond b (Some 0) (option_map (λ k. k + 1) r) ≡ Some j → cond b (Some f) o ≡ slice_get (f ∷ fs) j
 named_step true f o fs r j h e =
     let is : 0 ≡ j = cc in
@@ -155,24 +156,24 @@ named_step false f o fs (Some i) j h e =
     let next : suc i ≡ j = omega (arith, is) in
     subst (λ (k : ℕ). o ≡ slice_get (f ∷ fs) k) next (h i refl)
 
-pub function_named-number : (u : UnitTree) (name : List ℕ) (j : ℕ) → number_of name (map declared u) ≡ Some j → function_named u name ≡ slice_get u j
+pub function_named-number : (u : List Definition) (name : List ℕ) (j : ℕ) → number_of name (map declared u) ≡ Some j → function_named u name ≡ slice_get u j
 function_named-number [] name j e = absurd cc
 function_named-number (f ∷ fs) name j e = named_step (bytes_eq name f.name) f (function_named fs name) fs (number_of name (map declared fs)) j (λ i h. function_named-number fs name i h) e
 
 -- a name that has a number is that of the function there
-there_step : (b : Bool) (name : List ℕ) (f : FunctionTree) (fs : List FunctionTree) (r : Option ℕ) (j : ℕ) → (b ≡ true → name ≡ f.name)
-    → ((i : ℕ) → r ≡ Some i → (g : FunctionTree) × (slice_get fs i ≡ Some g) × (name ≡ g.name)) → cond b (Some 0) (option_map (λ k. k + 1) r) ≡ Some j
-    → (g : FunctionTree) × (slice_get (f ∷ fs) j ≡ Some g) × (name ≡ g.name)
+there_step : (b : Bool) (name : List ℕ) (f : Definition) (fs : List Definition) (r : Option ℕ) (j : ℕ) → (b ≡ true → name ≡ f.name)
+    → ((i : ℕ) → r ≡ Some i → (g : Definition) × (slice_get fs i ≡ Some g) × (name ≡ g.name)) → cond b (Some 0) (option_map (λ k. k + 1) r) ≡ Some j
+    → (g : Definition) × (slice_get (f ∷ fs) j ≡ Some g) × (name ≡ g.name)
 there_step true name f fs r j same h e =
     let is : 0 ≡ j = cc in
-    subst (λ (k : ℕ). (g : FunctionTree) × (slice_get (f ∷ fs) k ≡ Some g) × (name ≡ g.name)) is (f, refl, same refl)
+    subst (λ (k : ℕ). (g : Definition) × (slice_get (f ∷ fs) k ≡ Some g) × (name ≡ g.name)) is (f, refl, same refl)
 there_step false name f fs None j same h e = absurd cc
 there_step false name f fs (Some i) j same h e =
     let is : i + 1 ≡ j = cc in
     let next : suc i ≡ j = omega (arith, is) in
-    subst (λ (k : ℕ). (g : FunctionTree) × (slice_get (f ∷ fs) k ≡ Some g) × (name ≡ g.name)) next (h i refl)
+    subst (λ (k : ℕ). (g : Definition) × (slice_get (f ∷ fs) k ≡ Some g) × (name ≡ g.name)) next (h i refl)
 
-function_there : (u : UnitTree) (name : List ℕ) (j : ℕ) → number_of name (map declared u) ≡ Some j → (g : FunctionTree) × (slice_get u j ≡ Some g) × (name ≡ g.name)
+function_there : (u : List Definition) (name : List ℕ) (j : ℕ) → number_of name (map declared u) ≡ Some j → (g : Definition) × (slice_get u j ≡ Some g) × (name ≡ g.name)
 function_there [] name j e = absurd cc
 function_there (f ∷ fs) name j e = there_step (bytes_eq name f.name) name f fs (number_of name (map declared fs)) j (λ b. (bytes_eq-Decides name f.name).0 b) (λ i h. function_there fs name i h) e
 
@@ -185,24 +186,19 @@ slice_get-map g (y ∷ ys) zero x e =
     ap (λ z. Some (g z)) is
 slice_get-map g (y ∷ ys) (suc k) x e = slice_get-map g ys k x e
 
-resolved_at : (names : List Declared) (fs : List FunctionTree) (k : ℕ) (f : FunctionTree) → AllByRecursion (λ g. IsResolved names (calls_in g.value)) fs → slice_get fs k ≡ Some f → IsResolved names (calls_in f.value)
+resolved_at : (names : List Declared) (fs : List Definition) (k : ℕ) (f : Definition) → AllByRecursion (λ g. IsResolved names (calls_in g.value)) fs → slice_get fs k ≡ Some f → IsResolved names (calls_in f.value)
 resolved_at names [] k f all e = absurd cc
 resolved_at names (g ∷ gs) zero f all e =
     let is : g ≡ f = cc in
-    subst (λ (h : FunctionTree). IsResolved names (calls_in h.value)) is all.0
+    subst (λ (h : Definition). IsResolved names (calls_in h.value)) is all.0
 resolved_at names (g ∷ gs) (suc k) f all e = resolved_at names gs k f all.1 e
 
-named_own : (u : UnitTree) (k : ℕ) (f : FunctionTree) → names_functions [] u ≡ Ok tt → slice_get u k ≡ Some f → function_named u f.name ≡ Some f
+named_own : (u : List Definition) (k : ℕ) (f : Definition) → names_functions [] u ≡ Ok tt → slice_get u k ≡ Some f → function_named u f.name ≡ Some f
 named_own u k f e at =
     let same : 0 + k ≡ k = omega arith in
     function_named-number u f.name k (own_number [] u k f e at ∙ ap (λ (n : ℕ). Some n) same) ∙ at
 
 -- ---- expressions
-
--- what a stage of forms let through
-first_none : (a b : Option Place) → first_of a b ≡ None → (a ≡ None) × (b ≡ None)
-first_none None b e = (refl, e)
-first_none (Some at) b e = absurd cc
 
 then_equal : (o p : Outcome) (f g : ℤ → ℕ → Outcome) → o ≡ p → ((x : ℤ) (left : ℕ) → f x left ≡ g x left) → and_then o f ≡ and_then p g
 then_equal (Returned x left) p f g e h = rw (← e) (h x left)
@@ -296,26 +292,17 @@ value_runs names calls called h (AssignmentTree m p t v) built resolved n = absu
 
 -- ---- functions
 
-built_at : (u : UnitTree) (k : ℕ) (f : FunctionTree) → first_unbuilt u ≡ None → slice_get u k ≡ Some f → unbuilt_in f.value ≡ None
-built_at [] k f built at = absurd cc
-built_at (g ∷ gs) zero f built at =
-    let here = first_none (unbuilt_function g) (first_unbuilt gs) built in
-    let value = first_none (unbuilt_type g.type) (unbuilt_in g.value) here.0 in
-    let is : g ≡ f = cc in
-    subst (λ (h : FunctionTree). unbuilt_in h.value ≡ None) is value.1
-built_at (g ∷ gs) (suc k) f built at = built_at gs k f (first_none (unbuilt_function g) (first_unbuilt gs) built).1 at
-
 -- the plain functions of a unit
-abbrev plain_functions : UnitTree → List PlainFunction
+abbrev plain_functions : List Definition → List PlainFunction
 plain_functions u = map (plain_function (map declared u)) u
 
-body_runs : (u : UnitTree) (k : ℕ) (f : FunctionTree) (n : ℕ) (calls : ℕ → ℕ → Outcome) (called : List ℕ → ℕ → Outcome) → first_unbuilt u ≡ None → names_functions [] u ≡ Ok tt → slice_get u k ≡ Some f
+body_runs : (u : List Definition) (k : ℕ) (f : Definition) (n : ℕ) (calls : ℕ → ℕ → Outcome) (called : List ℕ → ℕ → Outcome) → AreBuilt u → names_functions [] u ≡ Ok tt → slice_get u k ≡ Some f
     → Agree (map declared u) calls called → run_body calls (slice_get (plain_functions u) k) n ≡ body_meaning called (function_named u f.name) n
 body_runs u k f n calls called built e at h =
     rw (slice_get-map (plain_function (map declared u)) u k f at, named_own u k f e at)
-    (value_runs (map declared u) calls called h f.value (built_at u k f built at) (resolved_at (map declared u) u k f (all_resolved [] u e) at) n)
+    (value_runs (map declared u) calls called h f.value (built k f at) (resolved_at (map declared u) u k f (all_resolved [] u e) at) n)
 
-call_runs_at : (u : UnitTree) → first_unbuilt u ≡ None → names_functions [] u ≡ Ok tt → (depth k : ℕ) (f : FunctionTree) → slice_get u k ≡ Some f → (n : ℕ) → run_call depth (plain_functions u) k n ≡ call_meaning depth u f.name n
+call_runs_at : (u : List Definition) → AreBuilt u → names_functions [] u ≡ Ok tt → (depth k : ℕ) (f : Definition) → slice_get u k ≡ Some f → (n : ℕ) → run_call depth (plain_functions u) k n ≡ call_meaning depth u f.name n
 unfolding run_call call_meaning
 call_runs_at u built e zero k f at n = refl
 call_runs_at u built e (suc depth) k f at zero = refl
@@ -323,13 +310,14 @@ call_runs_at u built e (suc depth) k f at (suc n) = body_runs u k f n (run_call 
     let there = function_there u name j h in
     call_runs_at u built e depth j there.0 there.1 m ∙ ap (λ q. call_meaning depth u q m) (sym there.2))
 
-pub runs : (u : UnitTree) → forms_unit u ≡ Ok tt → names_functions [] u ≡ Ok tt → (n k : ℕ) (f : FunctionTree) → slice_get u k ≡ Some f → run n (map (plain_function (map declared u)) u) k ≡ meaning n u f.name
+pub runs : (u : UnitTree) (fs : List Definition) → forms_unit u ≡ Ok fs → names_functions [] fs ≡ Ok tt → (n k : ℕ) (f : Definition) → slice_get fs k ≡ Some f
+    → run n (map (plain_function (map declared fs)) fs) k ≡ meaning n fs f.name
 unfolding run meaning
-runs u forms e n k f at =
-    let built = forms_pass u forms in
-    body_runs u k f n (run_call n (plain_functions u)) (call_meaning n u) built e at (λ name j h m.
-    let there = function_there u name j h in
-    call_runs_at u built e n j there.0 there.1 m ∙ ap (λ q. call_meaning n u q m) (sym there.2))
+runs u fs forms e n k f at =
+    let built = forms_built u fs forms in
+    body_runs fs k f n (run_call n (plain_functions fs)) (call_meaning n fs) built e at (λ name j h m.
+    let there = function_there fs name j h in
+    call_runs_at fs built e n j there.0 there.1 m ∙ ap (λ q. call_meaning n fs q m) (sym there.2))
 
 -- ---- typing
 
@@ -397,7 +385,7 @@ typed_value names (PostfixTree m p o) resolved = zero_fits
 typed_value names (ConditionalTree m c t o) resolved = zero_fits
 typed_value names (AssignmentTree m p t v) resolved = zero_fits
 
-typed_functions : (names : List Declared) (fs : List FunctionTree) → AllByRecursion (λ f. IsResolved names (calls_in f.value)) fs → AllByRecursion (IsTypedFunction (length names)) (map (plain_function names) fs)
+typed_functions : (names : List Declared) (fs : List Definition) → AllByRecursion (λ f. IsResolved names (calls_in f.value)) fs → AllByRecursion (IsTypedFunction (length names)) (map (plain_function names) fs)
 typed_functions names [] all = tt
 typed_functions names (f ∷ fs) all = (typed_value names f.value all.0, typed_functions names fs all.1)
 
@@ -405,7 +393,7 @@ length-mapped : {X Y Z : Type 0} (g : X → Y) (h : X → Z) (xs : List X) → l
 length-mapped g h [] = refl
 length-mapped g h (x ∷ xs) = ap suc (length-mapped g h xs)
 
-pub is_typed : (u : UnitTree) → names_functions [] u ≡ Ok tt → AllByRecursion (IsTypedFunction (length (map (plain_function (map declared u)) u))) (map (plain_function (map declared u)) u)
+pub is_typed : (u : List Definition) → names_functions [] u ≡ Ok tt → AllByRecursion (IsTypedFunction (length (map (plain_function (map declared u)) u))) (map (plain_function (map declared u)) u)
 is_typed u e =
     subst (λ (n : ℕ). AllByRecursion (IsTypedFunction n) (map (plain_function (map declared u)) u)) (length-mapped declared (plain_function (map declared u)) u)
     (typed_functions (map declared u) u (all_resolved [] u e))

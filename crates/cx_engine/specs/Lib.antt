@@ -1,3 +1,4 @@
+pub mod Definitions
 pub mod Forms
 pub mod Names
 pub mod Plain

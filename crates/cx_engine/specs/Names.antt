@@ -7,7 +7,7 @@ use Rattle.cx_base.specs.declared.fault.Fault.{Fault}
 use Rattle.cx_base.specs.declared.kind.Kind.TheVariants as fault
 use Rattle.cx_base.specs.declared.place.Place.{Place}
 use Rattle.cx_tree.specs.Trees.{ExprTree, GroupTree, CallTree, UnaryTree, BinaryTree}
-use Rattle.cx_tree.specs.UnitTree.{FunctionTree, UnitTree}
+use Rattle.cx_engine.specs.Definitions.{Definition}
 use Rattle.cx_engine.specs.Forms.{Mention, mention_of}
 
 -- A name, and where it is declared.
@@ -15,8 +15,8 @@ pub record Declared : Type 0 where
   pub name : List ℕ
   pub at : Place
 
-abbrev pub declared : FunctionTree → Declared
-declared f = record { name = f.name; at = f.mark.at }
+abbrev pub declared : Definition → Declared
+declared f = record { name = f.name; at = f.at }
 
 -- The first declaration of a name.
 abbrev pub declaration_of : List ℕ → List Declared → Option Declared
@@ -62,18 +62,18 @@ names_called names (c ∷ cs) = do
   names_called names cs
 
 -- A function behind these declarations: its name is new, and its body names those and itself.
-unfoldable pub names_function : List Declared → FunctionTree → Result (Unit {0}) Refusal
+unfoldable pub names_function : List Declared → Definition → Result (Unit {0}) Refusal
 names_function names f = do
-  _ ← is_new f.mark.at (declaration_of f.name names)
+  _ ← is_new f.at (declaration_of f.name names)
   names_called (names ++ declared f ∷ []) (calls_in f.value)
 
 -- The first fault of names of the functions behind these declarations, in unit order.
-unfoldable pub names_functions : List Declared → List FunctionTree → Result (Unit {0}) Refusal
+unfoldable pub names_functions : List Declared → List Definition → Result (Unit {0}) Refusal
 names_functions names [] = Ok tt
 names_functions names (f ∷ fs) = do
   _ ← names_function names f
   names_functions (names ++ declared f ∷ []) fs
 
 -- The stage of names.
-abbrev pub names_unit : UnitTree → Result (Unit {0}) Refusal
-names_unit u = names_functions [] u
+abbrev pub names_unit : List Definition → Result (Unit {0}) Refusal
+names_unit fs = names_functions [] fs

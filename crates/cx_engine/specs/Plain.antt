@@ -7,7 +7,8 @@ use Rattle.cx_plain.specs.PlainTree.{PlainExpr, PlainConstant, PlainCall, PlainU
 use Rattle.cx_tree.specs.declared.operators.UnaryOperator.{UnaryOperator}
 use Rattle.cx_tree.specs.declared.operators.UnaryOperator.TheVariants as unary
 use Rattle.cx_tree.specs.Trees.{ExprTree, IntTree, GroupTree, CallTree, UnaryTree, BinaryTree}
-use Rattle.cx_tree.specs.UnitTree.{FunctionTree, UnitTree}
+use Rattle.cx_tree.specs.Declarations.{UnitTree}
+use Rattle.cx_engine.specs.Definitions.{Definition}
 use Rattle.cx_engine.specs.Forms.{Mention, mention_of, is_int_literal, plain_operator, forms_unit}
 use Rattle.cx_engine.specs.Names.{Declared, declared, number_of, names_unit}
 
@@ -39,15 +40,15 @@ plain_expr names (UnaryTree m operator operand) = plain_unary operator (plain_ex
 plain_expr names (BinaryTree m operator left right) = plain_binary (plain_operator operator) (plain_expr names left) (plain_expr names right)
 plain_expr names other = unbuilt
 
-abbrev pub plain_function : List Declared → FunctionTree → PlainFunction
+abbrev pub plain_function : List Declared → Definition → PlainFunction
 plain_function names f = record { name = f.name; body = PlainReturn (plain_expr names f.value) }
 
-abbrev pub plain_unit : UnitTree → PlainTree
-plain_unit u = record { structs = []; globals = []; functions = map (plain_function (map declared u)) u }
+abbrev pub plain_unit : List Definition → PlainTree
+plain_unit fs = record { structs = []; globals = []; functions = map (plain_function (map declared fs)) fs }
 
 -- The stages behind the grammar: the forms, the names, then the plain unit.
 unfoldable pub translated : UnitTree → Result PlainTree Refusal
 translated u = do
-  _ ← forms_unit u
-  _ ← names_unit u
-  Ok (plain_unit u)
+  fs ← forms_unit u
+  _ ← names_unit fs
+  Ok (plain_unit fs)

@@ -1,5 +1,5 @@
 -- What the functions of a unit do in a number of steps ([expr], [stmt.return]). A call takes one step.
-use Rattle.std.specs.Prelude.{◌≡◌, ℕ, zero, suc, ℤ, pos, List, [], ◌∷◌, Option, Some, None, slice_get, if◌then◌else◌}
+use Rattle.std.specs.Prelude.{◌≡◌, ℕ, zero, suc, ℤ, pos, List, [], ◌∷◌, Option, Some, None, Ok, slice_get, if◌then◌else◌}
 use Rattle.std.specs.Str.{bytes_eq}
 use Rattle.cx_base.specs.Outcome.{Outcome, Returned, Undefined, Running}
 use Rattle.cx_base.specs.declared.value.Scalar.TheVariants.{Int}
@@ -12,11 +12,12 @@ use Rattle.cx_tree.specs.declared.operators.UnaryOperator.TheVariants as unary
 use Rattle.cx_tree.specs.declared.operators.BinaryOperator.{BinaryOperator}
 use Rattle.cx_tree.specs.declared.operators.BinaryOperator.TheVariants as binary
 use Rattle.cx_tree.specs.Trees.{ExprTree, IntTree, GroupTree, CallTree, UnaryTree, BinaryTree}
-use Rattle.cx_tree.specs.UnitTree.{FunctionTree, UnitTree}
-use Rattle.cx_engine.specs.Forms.{Mention, mention_of}
+use Rattle.cx_tree.specs.Declarations.{UnitTree}
+use Rattle.cx_engine.specs.Definitions.{Definition}
+use Rattle.cx_engine.specs.Forms.{Mention, mention_of, forms_unit}
 
 -- The function of a name.
-abbrev pub function_named : UnitTree → List ℕ → Option FunctionTree
+abbrev pub function_named : List Definition → List ℕ → Option Definition
 function_named [] name = None
 function_named (f ∷ fs) name = if bytes_eq name f.name then Some f else function_named fs name
 
@@ -55,20 +56,24 @@ value_meaning calls (BinaryTree m operator first second) n =
     and_then (value_meaning calls first n) (λ x left. and_then (value_meaning calls second left) (λ y left'. given (binary_meaning operator x y) left'))
 value_meaning calls other n = Undefined
 
-abbrev pub body_meaning : (List ℕ → ℕ → Outcome) → Option FunctionTree → ℕ → Outcome
+abbrev pub body_meaning : (List ℕ → ℕ → Outcome) → Option Definition → ℕ → Outcome
 body_meaning calls None n = Undefined
 body_meaning calls (Some f) n = value_meaning calls f.value n
 
 -- Calls of which at most so many are open at once.
-unfoldable pub call_meaning : ℕ → UnitTree → List ℕ → ℕ → Outcome
+unfoldable pub call_meaning : ℕ → List Definition → List ℕ → ℕ → Outcome
 call_meaning zero u name n = Running
 call_meaning (suc depth) u name n = called (body_meaning (call_meaning depth u) (function_named u name)) n
 
 -- The function of a name with n steps for its body. Each call that is open has taken a step, so more than n are never
 -- open.
-unfoldable pub meaning : ℕ → UnitTree → List ℕ → Outcome
+unfoldable pub meaning : ℕ → List Definition → List ℕ → Outcome
 meaning n u name = body_meaning (call_meaning n u) (function_named u name) n
 
 -- For every number of steps each function of the plain unit does what the function of the source does.
-abbrev pub Means : UnitTree → PlainTree → Type 0
-Means u plain = (n k : ℕ) (f : FunctionTree) → slice_get u k ≡ Some f → run n plain.functions k ≡ meaning n u f.name
+abbrev pub Means : List Definition → PlainTree → Type 0
+Means u plain = (n k : ℕ) (f : Definition) → slice_get u k ≡ Some f → run n plain.functions k ≡ meaning n u f.name
+
+-- The forms of a unit are built, and the plain unit does what the functions do that it defines.
+abbrev pub MeansUnit : UnitTree → PlainTree → Type 0
+MeansUnit u plain = (fs : List Definition) × (forms_unit u ≡ Ok fs) × Means fs plain

@@ -3,39 +3,39 @@
 use Rattle.std.specs.Prelude.{◌≡◌, ◌<◌, ◌+◌, ℕ, List, ◌∷◌, ◌++◌, Some, slice_get, take}
 use Rattle.std.specs.List.{AllByRecursion}
 use Rattle.cx_base.specs.declared.fault.Fault.{Fault}
-use Rattle.cx_tree.specs.UnitTree.{FunctionTree, UnitTree}
+use Rattle.cx_engine.specs.Definitions.{Definition}
 use Rattle.cx_engine.specs.Forms.{Mention}
 use Rattle.cx_engine.specs.Names.{calls_in, redeclared, unknown_name}
 
 -- One of the first n functions has this name.
-pub record IsAmongFirst (n : ℕ) (u : UnitTree) (name : List ℕ) : Type 0 where
+pub record IsAmongFirst (n : ℕ) (u : List Definition) (name : List ℕ) : Type 0 where
   pub number : ℕ
-  pub function : FunctionTree
+  pub function : Definition
   pub within : number < n
   pub there : slice_get u number ≡ Some function
   pub named : function.name ≡ name
 
 -- Two functions of one name are one, and a function calls names of functions before it or its own.
-pub record IsWellNamed (u : UnitTree) : Type 0 where
-  pub once : (i j : ℕ) (f g : FunctionTree) → slice_get u i ≡ Some f → slice_get u j ≡ Some g → f.name ≡ g.name → i ≡ j
-  pub known : (j : ℕ) (f : FunctionTree) → slice_get u j ≡ Some f → AllByRecursion (λ c. IsAmongFirst (j + 1) u c.name) (calls_in f.value)
+pub record IsWellNamed (u : List Definition) : Type 0 where
+  pub once : (i j : ℕ) (f g : Definition) → slice_get u i ≡ Some f → slice_get u j ≡ Some g → f.name ≡ g.name → i ≡ j
+  pub known : (j : ℕ) (f : Definition) → slice_get u j ≡ Some f → AllByRecursion (λ c. IsAmongFirst (j + 1) u c.name) (calls_in f.value)
 
 -- The functions before that of number j are well named, and that function declares the name of the function of
 -- number i again: the fault stands at the later name, and `also` has the earlier one.
-pub record Redeclares (u : UnitTree) (fault : Fault) (i j : ℕ) : Type 0 where
-  pub earlier : FunctionTree
-  pub later : FunctionTree
+pub record Redeclares (u : List Definition) (fault : Fault) (i j : ℕ) : Type 0 where
+  pub earlier : Definition
+  pub later : Definition
   pub before : IsWellNamed (take j u)
   pub order : i < j
   pub declares : slice_get u i ≡ Some earlier
   pub declares_again : slice_get u j ≡ Some later
   pub same_name : earlier.name ≡ later.name
-  pub says : fault ≡ redeclared later.mark.at earlier.mark.at
+  pub says : fault ≡ redeclared later.at earlier.at
 
 -- The functions before that of number j are well named, and the name of that function is new. It calls names of
 -- functions before it or its own, and then one that none of these has: the fault stands at that name.
-pub record CallsUnknown (u : UnitTree) (fault : Fault) (j : ℕ) : Type 0 where
-  pub caller : FunctionTree
+pub record CallsUnknown (u : List Definition) (fault : Fault) (j : ℕ) : Type 0 where
+  pub caller : Definition
   pub earlier : List Mention
   pub call : Mention
   pub later : List Mention

@@ -1,16 +1,21 @@
-//! The stage of forms: which forms of expressions are built.
+//! The stage of forms: which forms are built, and what a unit defines that has these alone.
 
 ghost use Rattle.std.specs.Prelude.{◌≡◌, ◌≤◌, map, Some, None, if◌then◌else◌, IsTrue};
 ghost use Rattle.std.specs.Option.{option_map};
 ghost use Rattle.cx_base.specs.Refusal.{Gives};
 ghost use Rattle.cx_tree.specs.Trees.{expr_tree, exprs, type_tree};
-ghost use Rattle.cx_tree.specs.UnitTree.{function_tree, unit_tree};
-ghost use Rattle.cx_engine.specs.Forms.{mention_of, is_int_literal, is_built_unary, plain_operator, unbuilt_in, unbuilt_type, unbuilt_function, first_unbuilt, forms_unit};
+ghost use Rattle.cx_tree.specs.Statements.{stmts};
+ghost use Rattle.cx_statements.specs.StatementViews.{stmt_tree};
+ghost use Rattle.cx_statements.specs.DeclarationViews.{specifiers, function_decl, decl_tree, unit_tree};
+ghost use Rattle.cx_engine.specs.Definitions.{definition_tree};
+ghost use Rattle.cx_engine.specs.Forms.{mention_of, is_int_literal, is_built_unary, plain_operator, unbuilt_in, unbuilt_type, unbuilt_stmt, unbuilt_stmts, unbuilt_body, has_specifiers, is_built_head, unbuilt_function, unbuilt_decl, forms_unit};
 
+use crate::definitions::{Definition, definition_of};
 use crate::faults::unsupported;
 use cx_base::{Place, Scalar, Stop};
 use cx_plain::BinaryOperator as PlainOperator;
-use cx_tree::{BinaryOperator, Core, Expr, Function, TypeSyn, UnaryOperator, Unit};
+use cx_statements::{Decl, FunctionDecl, Specifiers, Stmt, Unit};
+use cx_tree::{BinaryOperator, Core, Expr, TypeSyn, UnaryOperator};
 use std::alloc::Global;
 
 /// Whether a literal is one of type int, whose value it then has.
@@ -123,24 +128,104 @@ fn unbuilt_type(syn: &TypeSyn) -> Option<Place>
     }
 }
 
-fn unbuilt_function(function: &Function) -> Option<Place>
-    ensures { result ≡ unbuilt_function (function_tree function.now) }
+/// The place of the first node of a statement whose form is not built: of any but a `return` of a value.
+fn unbuilt_stmt(stmt: &Stmt) -> Option<Place>
+    ensures { result ≡ unbuilt_stmt (stmt_tree stmt.now) }
 {
-    match unbuilt_type(&function.result) {
-        Some(at) => Some(at),
-        None => unbuilt_in(&function.body.statement.value),
+    match stmt {
+        Stmt::Return {
+            value: Some(value),
+            ..
+        } => unbuilt_in(value),
+        _ => Some(stmt.at()),
     }
 }
 
-/// Refuses a unit as Unsupported at the first node whose form is not built, where there is one.
-#[tactic(auto, unfolding(crate::specs::Forms::forms_unit))]
-pub(crate) fn check_forms(alloc: Global, unit: &Unit) -> Result<(), Stop>
-    ensures { Gives (λ _. tt) result (forms_unit (unit_tree unit.now)) }
+/// The place of the first node whose form is not built in a block that stands here: a second statement is not built, nor
+/// is a block without one.
+fn unbuilt_stmts(at: Place, statements: &[Stmt]) -> Option<Place>
+    ensures { result ≡ unbuilt_stmts at (stmts (map stmt_tree statements.now)) }
 {
-    for function in &unit.functions {
-        if let Some(at) = unbuilt_function(function) {
-            return Err(unsupported(alloc, at));
+    match statements {
+        [] => Some(at),
+        [only] => unbuilt_stmt(only),
+        [first, second, ..] => {
+            match unbuilt_stmt(first) {
+                Some(at) => Some(at),
+                None => Some(second.at()),
+            }
         }
     }
-    Ok(())
+}
+
+/// The place of the first node of a body whose form is not built.
+fn unbuilt_body(body: &Stmt) -> Option<Place>
+    ensures { result ≡ unbuilt_body (stmt_tree body.now) }
+{
+    match body {
+        Stmt::Block { at, statements, .. } => unbuilt_stmts(*at, statements),
+        _ => Some(body.at()),
+    }
+}
+
+fn has_specifiers(words: Specifiers) -> bool
+    ensures { result ≡ has_specifiers (specifiers words) }
+{
+    words.is_inline || words.is_static || words.is_constexpr
+}
+
+/// Whether a function has no specifiers, no parameters, no `const` and no clause behind `requires`.
+fn is_built_head(function: &FunctionDecl) -> bool
+    ensures { result ≡ is_built_head (function_decl function.now) }
+{
+    !has_specifiers(function.specifiers)
+        && function.parameters.is_empty()
+        && !function.is_const
+        && function.trailing.is_none()
+}
+
+/// The place of the first node of a function whose form is not built.
+fn unbuilt_function(function: &FunctionDecl) -> Option<Place>
+    ensures { result ≡ unbuilt_function (function_decl function.now) }
+{
+    match &function.body {
+        Some(body) if is_built_head(function) => {
+            match unbuilt_type(&function.result) {
+                Some(at) => Some(at),
+                None => unbuilt_body(body),
+            }
+        }
+        _ => Some(function.at),
+    }
+}
+
+/// The place of the first node of a declaration whose form is not built.
+fn unbuilt_decl(decl: &Decl) -> Option<Place>
+    ensures { result ≡ unbuilt_decl (decl_tree decl.now) }
+{
+    match decl {
+        Decl::Function(function) => unbuilt_function(function),
+        _ => Some(decl.at()),
+    }
+}
+
+/// What a unit defines, in order. Refuses as Unsupported at the first node whose form is not built, where there is one;
+/// else for want of memory alone.
+#[tactic(auto, unfolding(crate::specs::Forms::forms_unit))]
+pub(crate) fn built_definitions<'t, 's>(
+    alloc: Global,
+    unit: &'t Unit<'s>,
+) -> Result<Vec<Definition<'t, 's>>, Stop>
+    ensures { Gives (λ fs. map definition_tree fs.items) result (forms_unit (unit_tree unit.now)) }
+{
+    let mut built = Vec::new(alloc);
+    for decl in &unit.declarations {
+        if let Some(at) = unbuilt_decl(decl) {
+            return Err(unsupported(alloc, at));
+        }
+        if let Some(definition) = definition_of(decl) {
+            built.push(definition)?;
+        }
+    }
+    Ok(built)
 }

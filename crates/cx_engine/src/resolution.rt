@@ -3,14 +3,15 @@
 ghost use Rattle.std.specs.Prelude.{◌≡◌, [], ◌∷◌, ◌++◌, map, IfOk, OnOk};
 ghost use Rattle.cx_base.specs.Refusal.{Gives};
 ghost use Rattle.cx_tree.specs.Trees.{expr_tree};
-ghost use Rattle.cx_tree.specs.UnitTree.{function_tree, unit_tree};
+ghost use Rattle.cx_engine.specs.Definitions.{definition_tree};
 ghost use Rattle.cx_engine.specs.Names.{declaration_of, declared, is_new, is_known, calls_in, names_called, names_function, names_unit};
 
+use crate::definitions::Definition;
 use crate::faults::{redeclared, unknown_name};
 use crate::forms::called_name;
 use crate::names::Names;
 use cx_base::{Place, Stop};
-use cx_tree::{Expr, Function, Unit};
+use cx_tree::Expr;
 use std::alloc::Global;
 
 /// Declares a name that is new.
@@ -65,22 +66,25 @@ fn resolve_calls<'s>(alloc: Global, names: &Names<'s>, expr: &Expr<'s>) -> Resul
 fn resolve_function<'s>(
     alloc: Global,
     names: &mut Names<'s>,
-    function: &Function<'s>,
+    function: &Definition<'_, 's>,
 ) -> Result<(), Stop>
-    ensures exact { Gives (λ _. tt) result (names_function names.old (function_tree function.now)) }
-    ensures adds { OnOk result (names.new ≡ names.old ++ declared (function_tree function.now) ∷ []) }
+    ensures exact { Gives (λ _. tt) result (names_function names.old (definition_tree function.now)) }
+    ensures adds { OnOk result (names.new ≡ names.old ++ declared (definition_tree function.now) ∷ []) }
 {
     declare(alloc, names, function.name, function.at)?;
-    resolve_calls(alloc, names, &function.body.statement.value)
+    resolve_calls(alloc, names, function.value)
 }
 
-/// The names of a unit, in order. Refuses at its first fault of names, in unit order.
-pub fn resolve_unit<'s>(alloc: Global, unit: &Unit<'s>) -> Result<Names<'s>, Stop>
-    ensures exact { Gives (λ _. tt) result (names_unit (unit_tree unit.now)) }
-    ensures all { IfOk result (λ names. names ≡ map declared (unit_tree unit.now)) }
+/// The names of a unit's functions, in order. Refuses at its first fault of names, in unit order.
+pub(crate) fn resolve_unit<'s>(
+    alloc: Global,
+    functions: &[Definition<'_, 's>],
+) -> Result<Names<'s>, Stop>
+    ensures exact { Gives (λ _. tt) result (names_unit (map definition_tree functions.now)) }
+    ensures all { IfOk result (λ names. names ≡ map declared (map definition_tree functions.now)) }
 {
     let mut names = Names::new(alloc);
-    for function in &unit.functions {
+    for function in functions {
         resolve_function(alloc, &mut names, function)?;
     }
     Ok(names)

@@ -7,12 +7,14 @@ ghost use Rattle.cx_base.specs.declared.stop.Stop.TheVariants.{NoMemory};
 ghost use Rattle.cx_plain.specs.PlainTree.{expr_view, function_view, plain_tree};
 ghost use Rattle.cx_plain.specs.PlainTyping.{IsTyped};
 ghost use Rattle.cx_tree.specs.Trees.{expr_tree};
-ghost use Rattle.cx_tree.specs.UnitTree.{function_tree, unit_tree};
+ghost use Rattle.cx_statements.specs.DeclarationViews.{unit_tree};
+ghost use Rattle.cx_engine.specs.Definitions.{definition_tree};
 ghost use Rattle.cx_engine.specs.Names.{number_of};
 ghost use Rattle.cx_engine.specs.Plain.{plain_call, plain_unary, plain_binary, plain_expr, plain_function, translated};
-ghost use Rattle.cx_engine.specs.SourceMeaning.{Means};
+ghost use Rattle.cx_engine.specs.SourceMeaning.{MeansUnit};
 
-use crate::forms::{Mention, called_name, check_forms, is_int_literal, plain_operator};
+use crate::definitions::Definition;
+use crate::forms::{Mention, built_definitions, called_name, is_int_literal, plain_operator};
 use crate::names::Names;
 use crate::resolution::resolve_unit;
 use cx_base::{List, Stop, Text};
@@ -20,7 +22,8 @@ use cx_plain::{
     BinaryOperator as PlainBinary, Expr as PlainExpr, Function as PlainFunction, PlainUnit, Stmt,
     UnaryOperator as PlainUnary,
 };
-use cx_tree::{Expr, Function, UnaryOperator, Unit};
+use cx_statements::Unit;
+use cx_tree::{Expr, UnaryOperator};
 use std::alloc::Global;
 
 /// What a unit is translated to.
@@ -132,14 +135,14 @@ fn number_of<'s>(names: &Names<'s>, name: &'s str) -> u32
 fn plain_function<'s>(
     alloc: Global,
     names: &Names<'s>,
-    function: &Function<'s>,
+    function: &Definition<'_, 's>,
 ) -> Result<PlainFunction, Stop>
     requires room { length names.now < 2 ^ 32 }
-    ensures ok { IfOk result (λ f. function_view f ≡ plain_function names.now (function_tree function.now)) }
+    ensures ok { IfOk result (λ f. function_view f ≡ plain_function names.now (definition_tree function.now)) }
     ensures only_memory { OnErr result (IsErrOf result NoMemory) }
 {
     let name = Text::from_str(alloc, function.name)?;
-    let value = plain_expr(alloc, names, &function.body.statement.value)?;
+    let value = plain_expr(alloc, names, function.value)?;
     Ok(PlainFunction {
         name,
         body: Stmt::Return(value),
@@ -150,10 +153,10 @@ fn plain_function<'s>(
 fn plain_functions<'s>(
     alloc: Global,
     names: &Names<'s>,
-    functions: &[Function<'s>],
+    functions: &[Definition<'_, 's>],
 ) -> Result<Vec<PlainFunction>, Stop>
     requires room { length names.now < 2 ^ 32 }
-    ensures ok { IfOk result (λ v. map function_view v.items ≡ map (plain_function names.now) (map function_tree functions.now)) }
+    ensures ok { IfOk result (λ v. map function_view v.items ≡ map (plain_function names.now) (map definition_tree functions.now)) }
     ensures only_memory { OnErr result (IsErrOf result NoMemory) }
 {
     let mut plain = Vec::new(alloc);
@@ -163,7 +166,8 @@ fn plain_functions<'s>(
     Ok(plain)
 }
 
-/// The plain unit of a unit: its functions in unit order, each call by the number of the function that it names.
+/// The plain unit of a unit: the functions that it defines in unit order, each call by the number of the function that it
+/// names.
 ///
 /// Refuses as Unsupported at the first form that is not built, in the order of the text, a node before its parts. Else
 /// as Redeclared where a name is declared again, with the earlier place in `also`, and as UnknownName where a
@@ -177,11 +181,11 @@ pub fn translate_unit(alloc: Global, unit: &Unit) -> Result<Translation, Stop>
     ensures exact { Gives (λ t. plain_tree t.plain) result (translated (unit_tree unit.now)) }
     ensures typed { IfOk result (λ t. IsTyped (plain_tree t.plain)) }
     // For every number of steps each of its functions does what the function of the source does.
-    ensures means { IfOk result (λ t. Means (unit_tree unit.now) (plain_tree t.plain)) }
+    ensures means { IfOk result (λ t. MeansUnit (unit_tree unit.now) (plain_tree t.plain)) }
 {
-    check_forms(alloc, unit)?;
-    let names = resolve_unit(alloc, unit)?;
-    let functions = plain_functions(alloc, &names, &unit.functions)?;
+    let definitions = built_definitions(alloc, unit)?;
+    let names = resolve_unit(alloc, &definitions)?;
+    let functions = plain_functions(alloc, &names, &definitions)?;
     Ok(Translation {
         plain: PlainUnit {
             structs: List::new(alloc),
