@@ -11,11 +11,12 @@ use Rattle.cx_base.specs.declared.place.Place.{Place}
 use Rattle.cx_lexer.specs.Division.{AreTokens, EndsOnce, AreSpelled, IsLexical}
 use Rattle.cx_lexer.specs.Reading.{lexed}
 use Rattle.cx_lexer.specs.Tokens.{TokenTree, fault_at}
-use Rattle.cx_tree.specs.UnitTree.{UnitTree}
+use Rattle.cx_tree.specs.Declarations.{UnitTree}
 use Rattle.cx_grammar.specs.Laws.{IsTree}
 use Rattle.cx_grammar.specs.Pieces.{pieces}
 use Rattle.cx_grammar.specs.Words.{is_unsupported, misfit}
 use Rattle.cx_parse_decl.specs.Units.{load_limit, units, IsUnit, IsFaultOf, IsMisfit, IsTooDeep, unit_at}
+use Rattle.cx_engine.specs.Definitions.{Definition}
 use Rattle.cx_engine.specs.Forms.{IsFirstUnbuilt, unsupported, forms_unit}
 use Rattle.cx_engine.specs.Names.{names_unit}
 use Rattle.cx_engine.specs.Plain.{plain_unit, translated}
@@ -85,7 +86,7 @@ pub record Laws : Type 0 where
   pub only : (ts : List TokenTree) (u : UnitTree) → IsUnit ts u → unit_at ts ≡ Ok u
   pub stops : (ts : List TokenTree) (r : Refusal) → EndsOnce ts → AreSpelled ts → unit_at ts ≡ Err r → IsMisfit ts r ⊎ IsTooDeep ts r
   pub first : (u : UnitTree) (r : Refusal) → forms_unit u ≡ Err r → (at : Place) × (r ≡ Refused (unsupported at)) × IsFirstUnbuilt u at
-  pub kinds : (u : UnitTree) (r : Refusal) → names_unit u ≡ Err r → (f : Fault) × (r ≡ Refused f) × ((f.kind ≡ fault.Redeclared) ⊎ (f.kind ≡ fault.UnknownName))
+  pub kinds : (ds : List Definition) (r : Refusal) → names_unit ds ≡ Err r → (f : Fault) × (r ≡ Refused f) × ((f.kind ≡ fault.Redeclared) ⊎ (f.kind ≡ fault.UnknownName))
 
 -- what the reader finds is what the bytes are read as
 pub are_tokens : ((bytes : List ℕ) → AreTokens bytes (lexed bytes)) → (bytes : List ℕ) (r : Result (List TokenTree) Refusal) → lexed bytes ≡ r → AreTokens bytes r
@@ -124,7 +125,7 @@ data StageOf (bytes : List ℕ) (r : Refusal) : Type 0 where
   Tokens : AreTokens bytes (Err r) → StageOf bytes r
   Grammar : IsNoUnit bytes r → StageOf bytes r
   Forms : (u : UnitTree) → tree_of bytes ≡ Ok u → forms_unit u ≡ Err r → StageOf bytes r
-  Names : (u : UnitTree) → tree_of bytes ≡ Ok u → forms_unit u ≡ Ok tt → names_unit u ≡ Err r → StageOf bytes r
+  Names : (u : UnitTree) (ds : List Definition) → tree_of bytes ≡ Ok u → forms_unit u ≡ Ok ds → names_unit ds ≡ Err r → StageOf bytes r
 
 no_unit_at : Laws → (bytes : List ℕ) (ts : List TokenTree) (r : Refusal) → lexed bytes ≡ Ok ts → unit_at ts ≡ Err r → IsNoUnit bytes r
 no_unit_at laws bytes ts r e d =
@@ -134,10 +135,10 @@ no_unit_at laws bytes ts r e d =
 of_translated : (bytes : List ℕ) (u : UnitTree) (r : Refusal) → tree_of bytes ≡ Ok u → translated u ≡ Err r → StageOf bytes r
 unfolding translated
 of_translated bytes u r read e =
-    elim (bind_err (forms_unit u) (λ _. names_unit u >>= λ _. Ok (plain_unit u)) r e) [
+    elim (bind_err (forms_unit u) (λ ds. names_unit ds >>= λ _. Ok (plain_unit ds)) r e) [
       | inl h ↦ Forms u read h
-      | inr h ↦ elim (bind_err (names_unit u) (λ _. Ok (plain_unit u)) r h.2) [
-        | inl n ↦ Names u read h.1 n
+      | inr h ↦ elim (bind_err (names_unit h.0) (λ _. Ok (plain_unit h.0)) r h.2) [
+        | inl n ↦ Names u h.0 read h.1 n
         | inr n ↦ let apart = n.2 in absurd cc
       ]
     ]
@@ -189,9 +190,9 @@ forms_are laws u f e =
 forms_kind : Laws → (u : UnitTree) (f : Fault) → forms_unit u ≡ Err (Refused f) → f.kind ≡ fault.Unsupported
 forms_kind laws u f e = ap (λ (g : Fault). g.kind) (forms_are laws u f e).1
 
-naming_kind : Laws → (u : UnitTree) (f : Fault) → names_unit u ≡ Err (Refused f) → IsNaming f.kind
-naming_kind laws u f e =
-    let k = laws.kinds u (Refused f) e in
+naming_kind : Laws → (ds : List Definition) (f : Fault) → names_unit ds ≡ Err (Refused f) → IsNaming f.kind
+naming_kind laws ds f e =
+    let k = laws.kinds ds (Refused f) e in
     subst (λ (g : Fault). IsNaming g.kind) (same_fault f k.0 k.1) k.2
 
 -- ---- the laws of the stages
@@ -207,7 +208,7 @@ lexical_only laws bytes f e is =
       | Tokens l ↦ l
       | Grammar g ↦ absurd (no_token_is_grammatical f.kind is (grammar_kind g.0 f (misfit_of g.0 f g.2)))
       | Forms u read h ↦ absurd (no_token_is_grammatical f.kind is (inr (forms_kind laws u f h)))
-      | Names u read built h ↦ absurd (no_name_is_lexical f.kind (naming_kind laws u f h) is)
+      | Names u ds read built h ↦ absurd (no_name_is_lexical f.kind (naming_kind laws ds f h) is)
     ]
 
 tree_refused : (bytes : List ℕ) (ts : List TokenTree) (r : Refusal) → lexed bytes ≡ Ok ts → tree_of bytes ≡ Err r → unit_at ts ≡ Err r
@@ -230,7 +231,7 @@ is_misfit laws bytes f e is =
       | Tokens l ↦ absurd (no_syntax_is_lexical f.kind is (lexical_kind laws bytes f l))
       | Grammar g ↦ (g.0, g.1, misfit_of g.0 f g.2)
       | Forms u read h ↦ absurd (syntax_is_no_form f.kind is (forms_kind laws u f h))
-      | Names u read built h ↦ absurd (no_name_is_grammatical f.kind (naming_kind laws u f h) (inl is))
+      | Names u ds read built h ↦ absurd (no_name_is_grammatical f.kind (naming_kind laws ds f h) (inl is))
     ]
 
 pub is_form : Laws → (bytes : List ℕ) (u : UnitTree) (r : Refusal) → tree_of bytes ≡ Ok u → forms_unit u ≡ Err r
@@ -246,16 +247,17 @@ is_unsupported_fault laws bytes f e is =
       | Tokens l ↦ absurd (no_token_is_grammatical f.kind (lexical_kind laws bytes f l) (inr is))
       | Grammar g ↦ inl (g.0, g.1, misfit_of g.0 f g.2)
       | Forms u read h ↦ let k = forms_are laws u f h in inr (u, k.0, is_spelled laws bytes u read, k.1, k.2)
-      | Names u read built h ↦ absurd (no_name_is_grammatical f.kind (naming_kind laws u f h) (inr is))
+      | Names u ds read built h ↦ absurd (no_name_is_grammatical f.kind (naming_kind laws ds f h) (inr is))
     ]
 
-pub is_naming : Laws → (bytes : List ℕ) (f : Fault) → judged bytes ≡ Err (Refused f) → IsNaming f.kind → (u : UnitTree) × IsTextOf bytes u × (forms_unit u ≡ Ok tt) × (names_unit u ≡ Err (Refused f))
+pub is_naming : Laws → (bytes : List ℕ) (f : Fault) → judged bytes ≡ Err (Refused f) → IsNaming f.kind
+    → (u : UnitTree) × (ds : List Definition) × IsTextOf bytes u × (forms_unit u ≡ Ok ds) × (names_unit ds ≡ Err (Refused f))
 is_naming laws bytes f e is =
     elim (stage_of laws bytes (Refused f) e) [
       | Tokens l ↦ absurd (no_name_is_lexical f.kind is (lexical_kind laws bytes f l))
       | Grammar g ↦ absurd (no_name_is_grammatical f.kind is (grammar_kind g.0 f (misfit_of g.0 f g.2)))
       | Forms u read h ↦ absurd (no_name_is_grammatical f.kind is (inr (forms_kind laws u f h)))
-      | Names u read built h ↦ (u, is_spelled laws bytes u read, built, h)
+      | Names u ds read built h ↦ (u, ds, is_spelled laws bytes u read, built, h)
     ]
 
 no_two_trees : (bytes : List ℕ) (u : UnitTree) (r : Refusal) → tree_of bytes ≡ Ok u → tree_of bytes ≡ Err r → ⊥
@@ -293,7 +295,7 @@ is_deep laws bytes l at e =
       | Tokens h ↦ let k = are_refused laws bytes (Passed l at) h in absurd (no_fault l at k.0 k.1)
       | Grammar g ↦ deep_of bytes g.0 l at g.1 g.2
       | Forms u read h ↦ let k = laws.first u (Passed l at) h in absurd (no_fault l at (unsupported k.0) k.1)
-      | Names u read built h ↦ let k = laws.kinds u (Passed l at) h in absurd (no_fault l at k.0 k.1)
+      | Names u ds read built h ↦ let k = laws.kinds ds (Passed l at) h in absurd (no_fault l at k.0 k.1)
     ]
 
 -- ---- the limit on the bytes

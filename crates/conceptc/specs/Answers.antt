@@ -7,10 +7,10 @@ use Rattle.cx_base.specs.declared.limit.Limit.TheVariants as limit
 use Rattle.cx_base.specs.declared.place.Place.{Place}
 use Rattle.cx_io.specs.Count.{Rose}
 use Rattle.cx_io.specs.Sink.{Appends, AppendsFront}
-use Rattle.cx_tree.specs.UnitTree.{UnitTree}
+use Rattle.cx_tree.specs.Declarations.{UnitTree}
 use Rattle.cx_plain.specs.PlainTree.{PlainTree}
 use Rattle.cx_plain.specs.PlainText.{plain_text}
-use Rattle.cx_engine.specs.SourceMeaning.{Means}
+use Rattle.cx_engine.specs.SourceMeaning.{MeansUnit}
 use Rattle.conceptc.specs.declared.command.Command.{Command}
 use Rattle.conceptc.specs.declared.command.Command.TheVariants.{Translate}
 use Rattle.conceptc.specs.declared.decision.Decision.{Decision}
@@ -30,7 +30,7 @@ IsDecided command st rest0 rest1 i0 i1 out0 out1 o0 o1 diag0 diag1 d0 d1 =
 -- plain unit and then that of the witness; the plain unit does what the unit does.
 abbrev pub IsDone : Option Command → Option (List ℕ) → Option (List ℕ) → Option (List ℕ) → Option (List ℕ) → Option (List ℕ) → Option (List ℕ) → Type 0
 IsDone command rest0 rest1 out0 out1 diag0 diag1 = (bytes : List ℕ) × (unit : UnitTree) × (plain : PlainTree)
-    × (command ≡ Some Translate) × ReadsWhole rest0 rest1 bytes × IsTextOf bytes unit × (verdict bytes ≡ Ok plain) × Means unit plain
+    × (command ≡ Some Translate) × ReadsWhole rest0 rest1 bytes × IsTextOf bytes unit × (verdict bytes ≡ Ok plain) × MeansUnit unit plain
     × Appends out0 out1 (plain_text plain ++ witness_text) × (diag1 ≡ diag0)
 
 -- IllFormed: the input was read to its end, and the verdict on its bytes is the fault that diag took the report of.

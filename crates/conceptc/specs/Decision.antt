@@ -7,11 +7,11 @@ use Rattle.cx_io.specs.Count.{Rose}
 use Rattle.cx_io.specs.Sink.{Appends, AppendsFront}
 use Rattle.cx_lexer.specs.Division.{AreTokens}
 use Rattle.cx_lexer.specs.Tokens.{TokenTree}
-use Rattle.cx_tree.specs.UnitTree.{UnitTree}
+use Rattle.cx_tree.specs.Declarations.{UnitTree}
 use Rattle.cx_parse_decl.specs.Units.{IsUnit, IsTooDeep}
 use Rattle.cx_plain.specs.PlainTree.{PlainTree}
 use Rattle.cx_plain.specs.PlainText.{plain_text}
-use Rattle.cx_engine.specs.SourceMeaning.{Means}
+use Rattle.cx_engine.specs.SourceMeaning.{MeansUnit}
 use Rattle.conceptc.specs.declared.command.Command.{Command}
 use Rattle.conceptc.specs.declared.command.Command.TheVariants.{Translate}
 use Rattle.conceptc.specs.declared.decision.Decision.{Decision}
@@ -34,7 +34,7 @@ IsTooDeepText bytes at = (ts : List TokenTree) × AreTokens bytes (Ok ts) × IsT
 -- plain unit.
 abbrev pub IsTranslated : List ℕ → List ℕ → Type 0
 IsTranslated bytes text = (unit : UnitTree) × (plain : PlainTree)
-    × IsTextOf bytes unit × (tree_of bytes ≡ Ok unit) × (verdict bytes ≡ Ok plain) × Means unit plain × (text ≡ plain_text plain)
+    × IsTextOf bytes unit × (tree_of bytes ≡ Ok unit) × (verdict bytes ≡ Ok plain) × MeansUnit unit plain × (text ≡ plain_text plain)
 
 -- What is decided of a unit's bytes.
 abbrev pub IsJudged : Decision → List ℕ → Type 0

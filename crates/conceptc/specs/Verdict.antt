@@ -10,7 +10,7 @@ use Rattle.cx_base.specs.declared.limit.Limit.TheVariants as limit
 use Rattle.cx_base.specs.declared.place.Place.{Place}
 use Rattle.cx_lexer.specs.Reading.{lexed}
 use Rattle.cx_parse_decl.specs.Units.{unit_at}
-use Rattle.cx_tree.specs.UnitTree.{UnitTree}
+use Rattle.cx_tree.specs.Declarations.{UnitTree}
 use Rattle.cx_plain.specs.PlainTree.{PlainTree}
 use Rattle.cx_engine.specs.Plain.{translated}
 

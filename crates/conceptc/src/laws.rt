@@ -7,10 +7,11 @@ ghost use Rattle.cx_base.specs.declared.kind.Kind.TheVariants as fault;
 ghost use Rattle.cx_base.specs.declared.limit.Limit.{Limit};
 ghost use Rattle.cx_base.specs.declared.limit.Limit.TheVariants as limit;
 ghost use Rattle.cx_base.specs.declared.place.Place.{Place};
-ghost use Rattle.cx_tree.specs.UnitTree.{UnitTree};
+ghost use Rattle.cx_tree.specs.Declarations.{UnitTree};
 ghost use Rattle.cx_lexer.specs.Division.{AreTokens, IsLexical};
 ghost use Rattle.cx_lexer.specs.Tokens.{TokenTree};
 ghost use Rattle.cx_parse_decl.specs.Units.{IsMisfit, IsTooDeep};
+ghost use Rattle.cx_engine.specs.Definitions.{Definition};
 ghost use Rattle.cx_engine.specs.Forms.{IsFirstUnbuilt, unsupported, forms_unit};
 ghost use Rattle.cx_engine.specs.Names.{names_unit};
 ghost use Rattle.conceptc.specs.Decision.{IsTextOf, IsTooDeepText};
@@ -45,9 +46,9 @@ pub fn stages()
         → ((ts : List TokenTree) × AreTokens bytes (Ok ts) × IsMisfit ts (Refused f))
         ⊎ ((unit : UnitTree) × (at : Place) × IsTextOf bytes unit × (f ≡ unsupported at) × IsFirstUnbuilt unit at) }
 
-    // A fault of the names is that of a unit whose forms are built.
+    // A fault of the names is that of a unit whose forms are built, by what is built of its functions.
     ensures names { (bytes : List ℕ) (f : Fault) → judged bytes ≡ Err (Refused f) → IsNaming f.kind
-        → (unit : UnitTree) × IsTextOf bytes unit × (forms_unit unit ≡ Ok tt) × (names_unit unit ≡ Err (Refused f)) }
+        → (unit : UnitTree) × (ds : List Definition) × IsTextOf bytes unit × (forms_unit unit ≡ Ok ds) × (names_unit ds ≡ Err (Refused f)) }
 
     // A fault of the tokens or of the syntax stands only where the bytes are no unit.
     ensures no_unit { (bytes : List ℕ) (f : Fault) → judged bytes ≡ Err (Refused f) → IsLexical f.kind ⊎ (f.kind ≡ fault.Syntax) → (unit : UnitTree) → IsTextOf bytes unit → ⊥ }

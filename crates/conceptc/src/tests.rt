@@ -211,8 +211,37 @@ fn forms_that_are_not_built_come_before_names(rt: HostRuntime) -> Result<(), Fai
             "int f() { return x(); } int f() { return 1u; }",
             "fault Unsupported 1:42\n",
         ),
+        // statements: a body is one return
+        ("int f() { }", "fault Unsupported 1:9\n"),
+        ("int f() { ; }", "fault Unsupported 1:11\n"),
+        ("int f() { return; }", "fault Unsupported 1:11\n"),
+        ("int f() { { return 1; } }", "fault Unsupported 1:11\n"),
+        (
+            "int f() { while (g) return 1u; }",
+            "fault Unsupported 1:11\n",
+        ),
+        // a variable stands at its name, an expression at its first token
+        (
+            "int f() { int x = 1u; return x; }",
+            "fault Unsupported 1:15\n",
+        ),
+        ("int f() { f(1u); }", "fault Unsupported 1:11\n"),
+        // a second statement, behind what is not built in the first
+        (
+            "int f() { return 1; return 2u; }",
+            "fault Unsupported 1:21\n",
+        ),
+        (
+            "int f() { return 1u; return 2; }",
+            "fault Unsupported 1:18\n",
+        ),
         // behind what does not fit
         ("int f() { return 1u } int", "fault Syntax 1:21\n"),
+        ("int f() { else return 1; }", "fault Syntax 1:11\n"),
+        (
+            "int f() { if (g) { int h = 1; } h{}; }",
+            "fault Syntax 1:34\n",
+        ),
     ];
     for (text, diag) in cases {
         expect(&rt, rt.alloc(), text, (Status::IllFormed, "", diag))?;
