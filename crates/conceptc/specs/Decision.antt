@@ -8,9 +8,10 @@ use Rattle.cx_io.specs.Sink.{Appends, AppendsFront}
 use Rattle.cx_lexer.specs.Division.{AreTokens}
 use Rattle.cx_lexer.specs.Tokens.{TokenTree}
 use Rattle.cx_tree.specs.Declarations.{UnitTree}
-use Rattle.cx_parse_decl.specs.Units.{IsUnit, IsTooDeep}
+use Rattle.cx_parse_decl.specs.Units.{IsUnit, IsTooDeep, unit_at}
 use Rattle.cx_plain.specs.PlainTree.{PlainTree}
 use Rattle.cx_plain.specs.PlainText.{plain_text}
+use Rattle.cx_engine.specs.Plain.{translated}
 use Rattle.cx_engine.specs.SourceMeaning.{MeansUnit}
 use Rattle.conceptc.specs.declared.command.Command.{Command}
 use Rattle.conceptc.specs.declared.command.Command.TheVariants.{Translate}
@@ -29,6 +30,10 @@ IsTextOf bytes unit = (ts : List TokenTree) × AreTokens bytes (Ok ts) × IsUnit
 -- The bytes are divided into tokens of which that at a place is the first one whose load passes the limit.
 abbrev pub IsTooDeepText : List ℕ → Place → Type 0
 IsTooDeepText bytes at = (ts : List TokenTree) × AreTokens bytes (Ok ts) × IsTooDeep ts (Passed limit.Depth at)
+
+-- The tokens are a unit, whose plain unit this is, and does what the unit does.
+abbrev pub IsPlainOf : List TokenTree → PlainTree → Type 0
+IsPlainOf ts plain = (unit : UnitTree) × IsUnit ts unit × (unit_at ts ≡ Ok unit) × (translated unit ≡ Ok plain) × MeansUnit unit plain
 
 -- The bytes are a unit, whose plain unit is the verdict and does what the unit does; the text is that of the
 -- plain unit.

@@ -9,6 +9,7 @@ use Rattle.cx_base.specs.declared.kind.Kind.TheVariants as fault
 use Rattle.cx_base.specs.declared.limit.Limit.TheVariants as limit
 use Rattle.cx_base.specs.declared.place.Place.{Place}
 use Rattle.cx_lexer.specs.Reading.{lexed}
+use Rattle.cx_lexer.specs.Tokens.{TokenTree}
 use Rattle.cx_parse_decl.specs.Units.{unit_at}
 use Rattle.cx_tree.specs.Declarations.{UnitTree}
 use Rattle.cx_plain.specs.PlainTree.{PlainTree}
@@ -35,6 +36,12 @@ unfoldable pub tree_of : List ℕ → Result UnitTree Refusal
 tree_of bytes = do
   ts ← lexed bytes
   unit_at ts
+
+-- The stages behind the tokens: the grammar, then the forms, the names and the plain unit.
+abbrev pub judged_tokens : List TokenTree → Result PlainTree Refusal
+judged_tokens ts = do
+  unit ← unit_at ts
+  translated unit
 
 -- The stages behind the limit on the bytes: the tree, then the forms, the names and the plain unit.
 unfoldable pub judged : List ℕ → Result PlainTree Refusal

@@ -1,17 +1,34 @@
 //! From the bytes of a unit to its plain text, or the first stop of the stages.
 
-ghost use Rattle.std.specs.Prelude.{◌≤◌, length, MatchResult};
-ghost use Rattle.cx_base.specs.Refusal.{Stops};
-ghost use Rattle.conceptc.specs.Decision.{IsTranslated, IsJudged};
-ghost use Rattle.conceptc.specs.Verdict.{source_limit, verdict};
+ghost use Rattle.std.specs.Prelude.{◌<◌, ◌≤◌, ◌*◌, ◌^◌, length, map, IfOk, MatchResult};
+ghost use Rattle.cx_base.specs.Refusal.{Gives, Stops};
+ghost use Rattle.cx_lexer.specs.Division.{EndsOnce, AreSpelled};
+ghost use Rattle.cx_lexer.specs.Tokens.{token_tree};
+ghost use Rattle.cx_plain.specs.PlainTree.{plain_tree};
+ghost use Rattle.cx_plain.specs.PlainTyping.{IsTyped};
+ghost use Rattle.conceptc.specs.Decision.{IsPlainOf, IsTranslated, IsJudged};
+ghost use Rattle.conceptc.specs.Verdict.{judged_tokens, source_limit, verdict};
 
 use crate::decision::Decision;
 use cx_base::{List, Stop};
-use cx_engine::translate_unit;
-use cx_lexer::{lex, one_division};
+use cx_engine::{Translation, translate_unit};
+use cx_lexer::{Token, lex, one_division};
 use cx_parse_decl::parse_unit;
 use cx_plain::print;
 use std::alloc::Global;
+
+/// The plain unit of a unit's tokens.
+fn translate_tokens(alloc: Global, tokens: &[Token<'_>]) -> Result<Translation, Stop>
+    requires ended { EndsOnce (map token_tree tokens.now) }
+    requires spelled { AreSpelled (map token_tree tokens.now) }
+    requires room { 16 * length tokens.now < 2 ^ 32 }
+    ensures exact { Gives (λ t. plain_tree t.plain) result (judged_tokens (map token_tree tokens.now)) }
+    ensures typed { IfOk result (λ t. IsTyped (plain_tree t.plain)) }
+    ensures means { IfOk result (λ t. IsPlainOf (map token_tree tokens.now) (plain_tree t.plain)) }
+{
+    let unit = parse_unit(alloc, tokens)?;
+    translate_unit(alloc, &unit)
+}
 
 /// The plain text of a unit.
 #[tactic(auto, unfolding(crate::specs::Verdict::verdict, crate::specs::Verdict::judged, crate::specs::Verdict::tree_of))]
@@ -21,8 +38,7 @@ fn translate(alloc: Global, source: &[u8]) -> Result<Vec<u8>, Stop>
 {
     one_division();
     let tokens = lex(alloc, source)?;
-    let unit = parse_unit(alloc, &tokens)?;
-    let translation = translate_unit(alloc, &unit)?;
+    let translation = translate_tokens(alloc, &tokens)?;
     print(alloc, &translation.plain)
 }
 
