@@ -34,21 +34,6 @@ fn write_type(out: &mut String, syn: &TypeSyn<'_>) -> Result<(), AllocError> {
     Ok(())
 }
 
-/// Two operands in parentheses.
-#[cycle(printing)]
-fn write_pair(
-    out: &mut String,
-    left: &Expr<'_>,
-    between: &str,
-    right: &Expr<'_>,
-) -> Result<(), AllocError> {
-    out.push_str("(")?;
-    write_expr(out, left)?;
-    out.push_str(between)?;
-    write_expr(out, right)?;
-    out.push_str(")")
-}
-
 /// What has operands.
 #[cycle(printing)]
 fn write_operation(out: &mut String, expr: &Expr<'_>) -> Result<(), AllocError> {
@@ -75,8 +60,20 @@ fn write_operation(out: &mut String, expr: &Expr<'_>) -> Result<(), AllocError> 
             write_expr(out, operand)?;
             out.push_str(" p)")
         }
-        Expr::Binary { left, right, .. } => write_pair(out, left, " ~ ", right),
-        Expr::Assignment { target, value, .. } => write_pair(out, target, " = ", value),
+        Expr::Binary { left, right, .. } => {
+            out.push_str("(")?;
+            write_expr(out, left)?;
+            out.push_str(" ~ ")?;
+            write_expr(out, right)?;
+            out.push_str(")")
+        }
+        Expr::Assignment { target, value, .. } => {
+            out.push_str("(")?;
+            write_expr(out, target)?;
+            out.push_str(" = ")?;
+            write_expr(out, value)?;
+            out.push_str(")")
+        }
         _ => out.push_str("?"),
     }
 }
@@ -182,11 +179,13 @@ fn write_part(out: &mut String, before: &str, stmt: &Stmt<'_>) -> Result<(), All
 #[cycle(stmts)]
 fn write_block(out: &mut String, statements: &[Stmt<'_>]) -> Result<(), AllocError> {
     out.push_str("{")?;
-    let mut before = "";
+    let mut is_first = true;
     for stmt in statements {
-        out.push_str(before)?;
+        if !is_first {
+            out.push_str(" ")?;
+        }
         write_stmt(out, stmt)?;
-        before = " ";
+        is_first = false;
     }
     out.push_str("}")
 }
