@@ -4,7 +4,7 @@ use Rattle.std.specs.Prelude.{slice_get}
 use Rattle.cx_base.specs.Refusal.{Refusal, Refused, ◌>>=◌}
 use Rattle.cx_base.specs.declared.place.Place.{Place}
 use Rattle.cx_tree.specs.declared.expression.Expr.{Expr}
-use Rattle.cx_tree.specs.Trees.{Mark, ExprTree, IntTree, BoolTree, NameTree, TemplateTree, QualifiedTree, ListTree, GroupTree, StaticCastTree, IsSameTree, OutTree, MemberTree, CallTree, PostfixTree, UnaryTree, BinaryTree, ConditionalTree, AssignmentTree, ExprTrees, and_expr, exprs, expr_tree}
+use Rattle.cx_tree.specs.Trees.{Mark, ExprTree, IntTree, BoolTree, NameTree, TemplateTree, QualifiedTree, ListTree, GroupTree, StaticCastTree, IsSameTree, OutTree, MemberTree, CallTree, PostfixTree, UnaryTree, BinaryTree, ConditionalTree, AssignmentTree, RequiresTree, ExprTrees, and_expr, exprs, expr_tree}
 use Rattle.cx_tree.specs.Statements.{StmtTree, EmptyStmt, Block, AssertStmt, Break, Continue, Return, If, IfElse, While, For, VariableStmt, ExprStmt, no_stmt, and_stmt, stmts, stmt_mark}
 use Rattle.cx_tree.specs.Declarations.{FunctionTree, DeclTree, EmptyDecl, AssertDecl, AliasDecl, ConstantDecl, FunctionDecl, StructDecl, TemplateDecl, UnitTree}
 use Rattle.cx_statements.specs.declared.statement.Stmt.{Stmt}
@@ -34,6 +34,7 @@ with_argument (UnaryTree m p o) e es = refl
 with_argument (BinaryTree m p l r) e es = refl
 with_argument (ConditionalTree m c t o) e es = refl
 with_argument (AssignmentTree m p t v) e es = refl
+with_argument (RequiresTree m ps rs) e es = refl
 
 pub no_mention : (callee : ExprTree) (es : List Expr) → (es ≡ [] → ⊥) → mention_of callee (exprs (map expr_tree es)) ≡ None
 no_mention callee [] some = absurd (some refl)

@@ -23,7 +23,7 @@ use Rattle.cx_tree.specs.declared.operators.UnaryOperator.{UnaryOperator}
 use Rattle.cx_tree.specs.declared.operators.UnaryOperator.TheVariants as unary
 use Rattle.cx_tree.specs.declared.operators.BinaryOperator.{BinaryOperator}
 use Rattle.cx_tree.specs.declared.operators.BinaryOperator.TheVariants as binary
-use Rattle.cx_tree.specs.Trees.{ExprTree, IntTree, BoolTree, NameTree, TemplateTree, QualifiedTree, ListTree, GroupTree, StaticCastTree, IsSameTree, OutTree, MemberTree, CallTree, PostfixTree, UnaryTree, BinaryTree, ConditionalTree, AssignmentTree}
+use Rattle.cx_tree.specs.Trees.{ExprTree, IntTree, BoolTree, NameTree, TemplateTree, QualifiedTree, ListTree, GroupTree, StaticCastTree, IsSameTree, OutTree, MemberTree, CallTree, PostfixTree, UnaryTree, BinaryTree, ConditionalTree, AssignmentTree, RequiresTree}
 use Rattle.cx_tree.specs.Declarations.{UnitTree}
 use Rattle.cx_engine.specs.Definitions.{Definition}
 use Rattle.cx_engine.specs.Forms.{Mention, mention_of, is_int_literal, is_built_unary, plain_operator, first_of, unbuilt_in, forms_unit}
@@ -289,6 +289,7 @@ value_runs names calls called h (MemberTree m o v) built resolved n = absurd cc
 value_runs names calls called h (PostfixTree m p o) built resolved n = absurd cc
 value_runs names calls called h (ConditionalTree m c t o) built resolved n = absurd cc
 value_runs names calls called h (AssignmentTree m p t v) built resolved n = absurd cc
+value_runs names calls called h (RequiresTree m ps rs) built resolved n = absurd cc
 
 -- ---- functions
 
@@ -384,6 +385,7 @@ typed_value names (MemberTree m o v) resolved = zero_fits
 typed_value names (PostfixTree m p o) resolved = zero_fits
 typed_value names (ConditionalTree m c t o) resolved = zero_fits
 typed_value names (AssignmentTree m p t v) resolved = zero_fits
+typed_value names (RequiresTree m ps rs) resolved = zero_fits
 
 typed_functions : (names : List Declared) (fs : List Definition) → AllByRecursion (λ f. IsResolved names (calls_in f.value)) fs → AllByRecursion (IsTypedFunction (length names)) (map (plain_function names) fs)
 typed_functions names [] all = tt

@@ -9,8 +9,8 @@ use Rattle.cx_base.specs.declared.numbers.NodeId.{NodeId}
 use Rattle.cx_base.specs.declared.place.Place.{Place}
 use Rattle.cx_tree.specs.declared.operators.BinaryOperator.{BinaryOperator}
 use Rattle.cx_tree.specs.declared.expression.Expr.TheVariants as expr
-use Rattle.cx_tree.specs.declared.expression.Expr.TheFolds.{fold-roll-Expr}
-use Rattle.cx_tree.specs.Trees.{ExprTree, ArgumentTree, CoreTree, TypeTree, expr_layer, argument_layer, core_layer, type_layer, expr_tree}
+use Rattle.cx_tree.specs.Trees.{expr_tree}
+use Rattle.cx_tree.proofs.Productions.{binary_tree}
 use Rattle.cx_engine.specs.declared.definitions.Definition.{Definition as Written}
 use Rattle.cx_engine.specs.Definitions.{Definition, definition_tree}
 use Rattle.cx_engine.specs.Forms.{Mention}
@@ -67,5 +67,4 @@ ends fs i names above h =
 
 -- the calls of a binary expression are those of its operands, the left one's first
 pub binary_calls : (n : NodeId) (at : Place) (operator : BinaryOperator) (left : _) (right : _) → calls_in (expr_tree (expr.Binary n at operator left right)) ≡ calls_in (expr_tree left.value) ++ calls_in (expr_tree right.value)
-binary_calls n at operator left right =
-    ap (λ e. calls_in (expr_tree e)) (sym (expr.rolls-Binary n at operator left right)) ∙ ap calls_in (fold-roll-Expr ExprTree ArgumentTree CoreTree TypeTree expr_layer argument_layer core_layer type_layer _)
+binary_calls n at operator left right = ap calls_in (binary_tree n at operator left right)

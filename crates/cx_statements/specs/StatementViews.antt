@@ -1,7 +1,7 @@
 -- What the statements of the code stand for.
 use Rattle.std.specs.Prelude.{map, None, Some}
 use Rattle.std.specs.Option.{option_map}
-use Rattle.cx_tree.specs.Trees.{mark, expr_tree, type_tree, argument_tree, exprs, arguments}
+use Rattle.cx_tree.specs.Trees.{ConstraintTree, mark, expr_tree, type_tree, argument_tree, exprs, arguments}
 use Rattle.cx_tree.specs.Statements as plain
 use Rattle.cx_statements.specs.declared.statement.Stmt.{Stmt}
 use Rattle.cx_statements.specs.declared.statement.Stmt.TheFolds.{fold-Stmt}
@@ -18,7 +18,7 @@ use Rattle.cx_statements.specs.declared.statement.ForInit.{ForInit}
 use Rattle.cx_statements.specs.declared.statement.ForInit.TheVariants as first
 use Rattle.cx_statements.specs.declared.statement.Assertion.{Assertion}
 
-abbrev pub constraint_tree : Constraint → plain.ConstraintTree
+abbrev pub constraint_tree : Constraint → ConstraintTree
 constraint_tree c = record { mark = mark c.node c.at; name = c.name.now; args = arguments (map argument_tree c.arguments.items) }
 
 abbrev pub auto_tree : Auto → plain.AutoTree

@@ -1,8 +1,8 @@
 -- The trees of declarations ([dcl.dcl]) and of a unit.
 use Rattle.std.specs.Prelude.{ℕ, Bool, List, Option}
 use Rattle.cx_base.specs.declared.value.Scalar.{Scalar}
-use Rattle.cx_tree.specs.Trees.{Mark, ExprTree, TypeTree, ArgumentTrees}
-use Rattle.cx_tree.specs.Statements.{ConstraintTree, WrittenType, InitTree, VariableTree, AssertTree, StmtTree}
+use Rattle.cx_tree.specs.Trees.{Mark, ExprTree, TypeTree, ArgumentTrees, ConstraintTree}
+use Rattle.cx_tree.specs.Statements.{WrittenType, InitTree, VariableTree, AssertTree, StmtTree}
 
 -- The words before a declaration ([dcl.stc], [dcl.inline], [dcl.constexpr]).
 pub record Specifiers : Type 0 where

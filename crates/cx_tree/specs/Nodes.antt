@@ -3,7 +3,7 @@ use Rattle.std.specs.Prelude.{◌≡◌, ◌+◌, ℕ, zero, suc, List, [], ◌�
 use Rattle.cx_base.specs.declared.place.Place.{Place}
 use Rattle.cx_tree.specs.declared.walk.Walk.{Walk}
 use Rattle.cx_tree.specs.declared.walk.Walk.TheVariants.{Left, Found}
-use Rattle.cx_tree.specs.Trees.{Mark, ExprTree, IntTree, BoolTree, NameTree, TemplateTree, QualifiedTree, ListTree, GroupTree, StaticCastTree, IsSameTree, OutTree, MemberTree, CallTree, PostfixTree, UnaryTree, BinaryTree, ConditionalTree, AssignmentTree, ExprTrees, no_expr, and_expr, TypeTree, OfCore, CoreTree, ScalarTree, VoidTree, TypeNameTree, ClassTree, MemberTypeTree, DecltypeTree, ArgumentTrees, no_argument, and_type, and_value}
+use Rattle.cx_tree.specs.Trees.{Mark, ExprTree, IntTree, BoolTree, NameTree, TemplateTree, QualifiedTree, ListTree, GroupTree, StaticCastTree, IsSameTree, OutTree, MemberTree, CallTree, PostfixTree, UnaryTree, BinaryTree, ConditionalTree, AssignmentTree, RequiresTree, ExprTrees, no_expr, and_expr, TypeTree, OfCore, CoreTree, ScalarTree, VoidTree, TypeNameTree, ClassTree, MemberTypeTree, DecltypeTree, ArgumentTrees, no_argument, and_type, and_value, LocalTrees, no_local, and_local, RequirementTrees, no_requirement, and_simple, and_required_type, and_compound, and_constrained, and_nested}
 
 -- Each node stands behind its parts, the parts in the order of the text.
 abbrev mutual
@@ -25,6 +25,7 @@ abbrev mutual
   expr_nodes (BinaryTree m operator left right) = expr_nodes left ++ expr_nodes right ++ m ∷ []
   expr_nodes (ConditionalTree m condition then otherwise) = expr_nodes condition ++ expr_nodes then ++ expr_nodes otherwise ++ m ∷ []
   expr_nodes (AssignmentTree m operator target value) = expr_nodes target ++ expr_nodes value ++ m ∷ []
+  expr_nodes (RequiresTree m ps rs) = locals_nodes ps ++ requirements_nodes rs ++ m ∷ []
 
   pub exprs_nodes : ExprTrees → List Mark
   exprs_nodes no_expr = []
@@ -47,6 +48,18 @@ abbrev mutual
   argument_nodes no_argument = []
   argument_nodes (and_type t rest) = type_nodes t ++ argument_nodes rest
   argument_nodes (and_value e rest) = expr_nodes e ++ argument_nodes rest
+
+  pub locals_nodes : LocalTrees → List Mark
+  locals_nodes no_local = []
+  locals_nodes (and_local m of name rest) = type_nodes of ++ m ∷ locals_nodes rest
+
+  pub requirements_nodes : RequirementTrees → List Mark
+  requirements_nodes no_requirement = []
+  requirements_nodes (and_simple m e rest) = expr_nodes e ++ m ∷ requirements_nodes rest
+  requirements_nodes (and_required_type m head names rest) = type_nodes head ++ m ∷ requirements_nodes rest
+  requirements_nodes (and_compound m e rest) = expr_nodes e ++ m ∷ requirements_nodes rest
+  requirements_nodes (and_constrained m e concept name arguments rest) = expr_nodes e ++ argument_nodes arguments ++ concept ∷ m ∷ requirements_nodes rest
+  requirements_nodes (and_nested m e rest) = expr_nodes e ++ m ∷ requirements_nodes rest
 
 -- The nodes of a list are numbered one after the other from n on.
 abbrev pub IsNumberedFrom : ℕ → List Mark → Type 0

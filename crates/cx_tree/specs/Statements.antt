@@ -1,12 +1,6 @@
 -- The trees of statements ([stmt.stmt]).
 use Rattle.std.specs.Prelude.{ℕ, Bool, List, [], ◌∷◌, Option}
-use Rattle.cx_tree.specs.Trees.{Mark, ExprTree, ExprTrees, TypeTree, ArgumentTrees}
-
--- A concept that constrains a type, with its template arguments ([temp.param]); a list of them is never empty.
-pub record ConstraintTree : Type 0 where
-  pub mark : Mark
-  pub name : List ℕ
-  pub args : ArgumentTrees
+use Rattle.cx_tree.specs.Trees.{Mark, ExprTree, ExprTrees, TypeTree, ConstraintTree}
 
 -- `auto` with its constraint ([dcl.spec.auto]).
 pub record AutoTree : Type 0 where

@@ -1,5 +1,5 @@
 -- The syntax trees without where they lie in memory.
-use Rattle.std.specs.Prelude.{ℕ, Bool, List, [], ◌∷◌, map}
+use Rattle.std.specs.Prelude.{ℕ, Bool, List, [], ◌∷◌, map, Option, None, Some}
 use Rattle.std.specs.Borrow.{Bor}
 use Rattle.cx_base.specs.declared.numbers.NodeId.{NodeId}
 use Rattle.cx_base.specs.declared.place.Place.{Place}
@@ -43,6 +43,7 @@ mutual
     BinaryTree : Mark → BinaryOperator → (left : ExprTree) → (right : ExprTree) → ExprTree
     ConditionalTree : Mark → (condition : ExprTree) → (then : ExprTree) → (otherwise : ExprTree) → ExprTree
     AssignmentTree : Mark → AssignmentOperator → (target : ExprTree) → (value : ExprTree) → ExprTree
+    RequiresTree : Mark → LocalTrees → RequirementTrees → ExprTree
 
   -- expressions in order
   pub data ExprTrees : Type 0 where
@@ -66,6 +67,20 @@ mutual
     and_type : TypeTree → ArgumentTrees → ArgumentTrees
     and_value : ExprTree → ArgumentTrees → ArgumentTrees
 
+  -- the local parameters of a requires-expression in order ([expr.prim.req]): each of a type, with a name or none
+  pub data LocalTrees : Type 0 where
+    no_local : LocalTrees
+    and_local : Mark → (of : TypeTree) → (name : Option (List ℕ)) → LocalTrees → LocalTrees
+
+  -- requirements in order; a compound one may have a concept behind its `->`, with its mark, name and arguments
+  pub data RequirementTrees : Type 0 where
+    no_requirement : RequirementTrees
+    and_simple : Mark → ExprTree → RequirementTrees → RequirementTrees
+    and_required_type : Mark → (head : TypeTree) → (names : List (List ℕ)) → RequirementTrees → RequirementTrees
+    and_compound : Mark → ExprTree → RequirementTrees → RequirementTrees
+    and_constrained : Mark → ExprTree → (concept : Mark) → (name : List ℕ) → ArgumentTrees → RequirementTrees → RequirementTrees
+    and_nested : Mark → ExprTree → RequirementTrees → RequirementTrees
+
 -- an expression's own node
 abbrev pub expr_mark : ExprTree → Mark
 expr_mark (IntTree m scalar value) = m
@@ -85,6 +100,7 @@ expr_mark (UnaryTree m operator operand) = m
 expr_mark (BinaryTree m operator left right) = m
 expr_mark (ConditionalTree m condition then otherwise) = m
 expr_mark (AssignmentTree m operator target value) = m
+expr_mark (RequiresTree m ps rs) = m
 
 -- a template argument
 pub data ArgumentTree : Type 0 where
@@ -103,6 +119,43 @@ with_argument (ValueArgument e) as' = and_value e as'
 abbrev pub arguments : List ArgumentTree → ArgumentTrees
 arguments [] = no_argument
 arguments (a ∷ as') = with_argument a (arguments as')
+
+-- A concept that constrains a type, with its template arguments ([temp.param]); a list of them is never empty.
+pub record ConstraintTree : Type 0 where
+  pub mark : Mark
+  pub name : List ℕ
+  pub args : ArgumentTrees
+
+-- A local parameter of a requires-expression ([expr.prim.req]); its place is that of its name, or of its type where it
+-- has none.
+pub record LocalTree : Type 0 where
+  pub mark : Mark
+  pub type : TypeTree
+  pub name : Option (List ℕ)
+
+-- A requirement ([expr.prim.req.simple] to [expr.prim.req.nested]); its place is that of its first token. A type
+-- requirement has a head and the names behind its `::`, if they stand there; a compound one has the concept behind its
+-- `->`, if it stands there.
+pub data RequirementTree : Type 0 where
+  SimpleRequirement : Mark → ExprTree → RequirementTree
+  TypeRequirement : Mark → (head : TypeTree) → (names : List (List ℕ)) → RequirementTree
+  CompoundRequirement : Mark → ExprTree → (constraint : Option ConstraintTree) → RequirementTree
+  NestedRequirement : Mark → ExprTree → RequirementTree
+
+abbrev pub locals : List LocalTree → LocalTrees
+locals [] = no_local
+locals (p ∷ ps) = and_local p.mark p.type p.name (locals ps)
+
+abbrev pub with_requirement : RequirementTree → RequirementTrees → RequirementTrees
+with_requirement (SimpleRequirement m e) rs = and_simple m e rs
+with_requirement (TypeRequirement m head names) rs = and_required_type m head names rs
+with_requirement (CompoundRequirement m e None) rs = and_compound m e rs
+with_requirement (CompoundRequirement m e (Some k)) rs = and_constrained m e k.mark k.name k.args rs
+with_requirement (NestedRequirement m e) rs = and_nested m e rs
+
+abbrev pub requirements : List RequirementTree → RequirementTrees
+requirements [] = no_requirement
+requirements (r ∷ rs) = with_requirement r (requirements rs)
 
 abbrev pub texts : List (Bor (List ℕ)) → List (List ℕ)
 texts names = map (λ name. name.now) names

@@ -2,9 +2,9 @@
 -- the parts in the order of the text.
 use Rattle.std.specs.Prelude.{List, [], ◌∷◌, ◌++◌, Option, Some, None}
 use Rattle.std.specs.List.{flat_map}
-use Rattle.cx_tree.specs.Trees.{Mark, ExprTree, TypeTree}
+use Rattle.cx_tree.specs.Trees.{Mark, ExprTree, TypeTree, ConstraintTree}
 use Rattle.cx_tree.specs.Nodes.{expr_nodes, exprs_nodes, type_nodes, argument_nodes}
-use Rattle.cx_tree.specs.Statements.{ConstraintTree, AutoTree, WrittenType, OfType, OfAuto, InitTree, ValueInit, ListInit, VariableTree, ForInit, NoInit, VariableInit, ExprInit, AssertTree, StmtTree, EmptyStmt, Block, AssertStmt, Break, Continue, Return, If, IfElse, While, For, VariableStmt, ExprStmt, StmtTrees, no_stmt, and_stmt}
+use Rattle.cx_tree.specs.Statements.{AutoTree, WrittenType, OfType, OfAuto, InitTree, ValueInit, ListInit, VariableTree, ForInit, NoInit, VariableInit, ExprInit, AssertTree, StmtTree, EmptyStmt, Block, AssertStmt, Break, Continue, Return, If, IfElse, While, For, VariableStmt, ExprStmt, StmtTrees, no_stmt, and_stmt}
 use Rattle.cx_tree.specs.Declarations.{ParameterTree, FunctionTree, AliasTree, ConstantTree, MemberTree, EmptyMember, AliasMember, FieldMember, ConstantMember, FunctionMember, StructTree, TemplateParameterTree, TypeParameter, ConstrainedParameter, ValueParameter, TemplatedTree, FunctionTemplate, StructTemplate, ConceptDefinition, Specialisation, DeclTree, EmptyDecl, AssertDecl, AliasDecl, ConstantDecl, FunctionDecl, StructDecl, TemplateDecl, UnitTree}
 
 -- ---- parts that may be left out
