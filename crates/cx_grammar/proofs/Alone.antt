@@ -24,8 +24,8 @@ pub data Goes {A : Type 0} (p : Production A) (l : ℕ) (us : List Piece) (t : P
   Stays : p.read l (us ++ t ∷ rest) ≡ Ok (x, t ∷ rest) → Goes p l us t rest x
   On : Fitting p l (us ++ t ∷ []) → Goes p l us t rest x
 
-pub record Alone {A : Type 0} (p : Production A) : Type 0 where
-  pub lawful : Lawful p
+pub record Alone (requires : Bool) {A : Type 0} (p : Production A) : Type 0 where
+  pub lawful : Lawful requires p
   pub alone : (l : ℕ) (us : List Piece) (t : Piece) (rest : List Piece) (x : A) → p.whole l us (t ∷ rest) x → p.whole l us [] x
   pub free : (l : ℕ) (us : List Piece) (t : Piece) (rest : List Piece) (x : A) → p.whole l us [] x → Goes p l us t rest x
 
@@ -95,21 +95,21 @@ both-Opens false q h = record { opens = λ l t e. absurd (true≢false (sym e)) 
 
 -- ---- what is alone
 
-pub give-Alone : {A : Type 0} (x : A) → Alone (give x)
+pub give-Alone : {requires : Bool} {A : Type 0} (x : A) → Alone requires (give x)
 give-Alone x = record {
   lawful = give-Lawful x;
   alone = λ l us t rest y w. w;
   free = λ l us t rest y w. Stays (λ i. Ok (sym w.1 i, w.0 i ++ t ∷ rest));
 }
 
-pub token-Alone : (load : ℕ) (p : Piece → Bool) → Alone (token load p)
+pub token-Alone : {requires : Bool} (load : ℕ) (p : Piece → Bool) → Alone requires (token load p)
 token-Alone load p = record {
   lawful = token-Lawful load p;
   alone = λ l us t rest x w. w;
   free = λ l us t rest x w. Stays (ap (λ (s : List Piece). (token load p).read l (s ++ t ∷ rest)) w.0 ∙ token_fits load p l x (t ∷ rest) w.1 w.2);
 }
 
-pub closed-Alone : {A : Type 0} → Alone (closed {A = A})
+pub closed-Alone : {requires : Bool} {A : Type 0} → Alone requires (closed {A = A})
 closed-Alone = record {
   lawful = closed-Lawful;
   alone = λ l us t rest x w. w;
@@ -117,29 +117,29 @@ closed-Alone = record {
 }
 
 -- what stands behind the first of two productions, where the second has no piece
-data Edge {A B : Type 0} (p : Production A) (f : A → Production B) : Type 0 where
-  Bare : Alone p → Edge p f
-  Covered : Lawful p → ((x : A) → Filled (f x)) → Edge p f
+data Edge (requires : Bool) {A B : Type 0} (p : Production A) (f : A → Production B) : Type 0 where
+  Bare : Alone requires p → Edge requires p f
+  Covered : Lawful requires p → ((x : A) → Filled (f x)) → Edge requires p f
 
-edge_lawful : {A B : Type 0} {p : Production A} {f : A → Production B} → Edge p f → Lawful p
+edge_lawful : {requires : Bool} {A B : Type 0} {p : Production A} {f : A → Production B} → Edge requires p f → Lawful requires p
 edge_lawful (Bare h) = h.lawful
 edge_lawful (Covered h k) = h
 
-module _ {A B : Type 0} {p : Production A} {f : A → Production B} where
-  end_alone : Edge p f → (l : ℕ) (us vs : List Piece) (t : Piece) (rest : List Piece) (x : A) (y : B) → p.whole l us (vs ++ t ∷ rest) x → (f x).whole l vs (t ∷ rest) y → p.whole l us (vs ++ []) x
+module _ {requires : Bool} {A B : Type 0} {p : Production A} {f : A → Production B} where
+  end_alone : Edge requires p f → (l : ℕ) (us vs : List Piece) (t : Piece) (rest : List Piece) (x : A) (y : B) → p.whole l us (vs ++ t ∷ rest) x → (f x).whole l vs (t ∷ rest) y → p.whole l us (vs ++ []) x
   end_alone (Bare h) l us [] t rest x y w k = h.alone l us t rest x w
   end_alone (Bare h) l us (v ∷ vs) t rest x y w k = whole_ahead h.lawful l us v (vs ++ t ∷ rest) (vs ++ []) x w
   end_alone (Covered h c) l us [] t rest x y w k = absurd ((c x).filled l (t ∷ rest) y k)
   end_alone (Covered h c) l us (v ∷ vs) t rest x y w k = whole_ahead h l us v (vs ++ t ∷ rest) (vs ++ []) x w
 
-  end_goes : Edge p f → (l : ℕ) (us vs : List Piece) (t : Piece) (rest : List Piece) (x : A) (y : B) → p.whole l us (vs ++ []) x → (f x).whole l vs [] y
+  end_goes : Edge requires p f → (l : ℕ) (us vs : List Piece) (t : Piece) (rest : List Piece) (x : A) (y : B) → p.whole l us (vs ++ []) x → (f x).whole l vs [] y
       → (p.read l (us ++ (vs ++ t ∷ rest)) ≡ Ok (x, vs ++ t ∷ rest)) ⊎ Fitting p l (us ++ (vs ++ t ∷ []))
   end_goes (Bare h) l us [] t rest x y w k = elim (h.free l us t rest x w) [ Stays e ↦ inl e | On g ↦ inr g ]
   end_goes (Bare h) l us (v ∷ vs) t rest x y w k = inl (h.lawful.complete l us (v ∷ (vs ++ t ∷ rest)) x (whole_ahead h.lawful l us v (vs ++ []) (vs ++ t ∷ rest) x w))
   end_goes (Covered h c) l us [] t rest x y w k = absurd ((c x).filled l [] y k)
   end_goes (Covered h c) l us (v ∷ vs) t rest x y w k = inl (h.complete l us (v ∷ (vs ++ t ∷ rest)) x (whole_ahead h l us v (vs ++ []) (vs ++ t ∷ rest) x w))
 
-  module _ (hp : Edge p f) (hf : (x : A) → Alone (f x)) where
+  module _ (hp : Edge requires p f) (hf : (x : A) → Alone requires (f x)) where
     edge_alone : (l : ℕ) (us : List Piece) (t : Piece) (rest : List Piece) (y : B) → (p >>= f).whole l us (t ∷ rest) y → (p >>= f).whole l us [] y
     edge_alone l ts t rest y w = (w.0, w.1, w.2, w.3, end_alone hp l w.1 w.2 t rest w.0 y w.4 w.5, (hf w.0).alone l w.2 t rest y w.5)
 
@@ -173,17 +173,17 @@ module _ {A B : Type 0} {p : Production A} {f : A → Production B} where
           }
         ]
 
-    edge-Alone : Alone (p >>= f)
+    edge-Alone : Alone requires (p >>= f)
     edge-Alone = record { lawful = then-Lawful (edge_lawful hp) (λ x. (hf x).lawful); alone = edge_alone; free = edge_free }
 
-pub then-Alone : {A B : Type 0} {p : Production A} {f : A → Production B} → Alone p → ((x : A) → Alone (f x)) → Alone (p >>= f)
+pub then-Alone : {requires : Bool} {A B : Type 0} {p : Production A} {f : A → Production B} → Alone requires p → ((x : A) → Alone requires (f x)) → Alone requires (p >>= f)
 then-Alone hp hf = edge-Alone (Bare hp) hf
 
 -- where the second production is not empty, nothing is asked of what stands behind the first
-pub before-Alone : {A B : Type 0} {p : Production A} {f : A → Production B} → Lawful p → ((x : A) → Alone (f x)) → ((x : A) → Filled (f x)) → Alone (p >>= f)
+pub before-Alone : {requires : Bool} {A B : Type 0} {p : Production A} {f : A → Production B} → Lawful requires p → ((x : A) → Alone requires (f x)) → ((x : A) → Filled (f x)) → Alone requires (p >>= f)
 before-Alone hp hf k = edge-Alone (Covered hp k) hf
 
-branch_alone : {A : Type 0} (c : Bool) (a b : Production A) → Alone a → Alone b → Alone (branch c a b)
+branch_alone : {requires : Bool} {A : Type 0} (c : Bool) (a b : Production A) → Alone requires a → Alone requires b → Alone requires (branch c a b)
 branch_alone true a b ha hb = ha
 branch_alone false a b ha hb = hb
 
@@ -192,7 +192,7 @@ data Other {A : Type 0} (p : Piece → Bool) (a b : Production A) : Type 0 where
   Opened : Opens p a → Other p a b
   Barred : Filled b → Other p a b
 
-module _ {A : Type 0} (p : Piece → Bool) {a b : Production A} (ha : Alone a) (hb : Alone b) (fa : Filled a) (o : Other p a b) where
+module _ {requires : Bool} {A : Type 0} (p : Piece → Bool) {a b : Production A} (ha : Alone requires a) (hb : Alone requires b) (fa : Filled a) (o : Other p a b) where
   when_alone : (l : ℕ) (us : List Piece) (t : Piece) (rest : List Piece) (x : A) → (when p a b).whole l us (t ∷ rest) x → (when p a b).whole l us [] x
   unfolding begins
   when_alone l [] t rest x w = go (p t) w
@@ -225,23 +225,23 @@ module _ {A : Type 0} (p : Piece → Bool) {a b : Production A} (ha : Alone a) (
   when_free l (u ∷ us) t rest x w =
       when_goes l u us t rest x ((branch_alone (p u) a b ha hb).free l (u ∷ us) t rest x (from_whole a b (p u) l (u ∷ us) [] x w))
 
-  other-Alone : Alone (when p a b)
+  other-Alone : Alone requires (when p a b)
   other-Alone = record { lawful = when-Lawful p ha.lawful hb.lawful; alone = when_alone; free = when_free }
 
 -- the first production opens with each piece that chooses it
-pub opens-Alone : {A : Type 0} (p : Piece → Bool) {a b : Production A} → Alone a → Alone b → Filled a → Opens p a → Alone (when p a b)
+pub opens-Alone : {requires : Bool} {A : Type 0} (p : Piece → Bool) {a b : Production A} → Alone requires a → Alone requires b → Filled a → Opens p a → Alone requires (when p a b)
 opens-Alone p ha hb fa k = other-Alone p ha hb fa (Opened k)
 
 -- the second production is not empty
-pub filled-Alone : {A : Type 0} (p : Piece → Bool) {a b : Production A} → Alone a → Alone b → Filled a → Filled b → Alone (when p a b)
+pub filled-Alone : {requires : Bool} {A : Type 0} (p : Piece → Bool) {a b : Production A} → Alone requires a → Alone requires b → Filled a → Filled b → Alone requires (when p a b)
 filled-Alone p ha hb fa k = other-Alone p ha hb fa (Barred k)
 
-pub given-Alone : {A : Type 0} (c : Bool) {a b : Production A} → Alone a → Alone b → Alone (given c a b)
+pub given-Alone : {requires : Bool} {A : Type 0} (c : Bool) {a b : Production A} → Alone requires a → Alone requires b → Alone requires (given c a b)
 given-Alone true ha hb = ha
 given-Alone false ha hb = hb
 
 -- a reader of what is not empty takes a piece
-filled_takes : {A : Type 0} {p : Production A} → Lawful p → Filled p → Takes p
+pub filled_takes : {requires : Bool} {A : Type 0} {p : Production A} → Lawful requires p → Filled p → Takes p
 filled_takes {A} {p} hp fp = record { takes = takes }
   where
     shorter : (l : ℕ) (us rest : List Piece) (x : A) → p.whole l us rest x → length rest < length (us ++ rest)
@@ -253,17 +253,17 @@ filled_takes {A} {p} hp fp = record { takes = takes }
         let s = hp.sound l ts x rest e in
         omega (arith, shorter l s.tree rest x s.whole, ap (λ (z : List Piece). length z) s.split)
 
-pub filled-Steps : {A : Type 0} {p q : Production A} → Grows p q → Filled p → Filled q → Steps p q
+pub filled-Steps : {requires : Bool} {A : Type 0} {p q : Production A} → Grows requires p q → Filled p → Filled q → Steps requires p q
 filled-Steps h low high = record { grows = h; low = filled_takes h.low low; high = filled_takes h.high high }
 
 -- a turn of a repetition: it opens with the piece that chooses it
-pub record Turn {A : Type 0} (p : Piece → Bool) (q : Production A) : Type 0 where
-  pub alone : Alone q
+pub record Turn (requires : Bool) {A : Type 0} (p : Piece → Bool) (q : Production A) : Type 0 where
+  pub alone : Alone requires q
   pub filled : Filled q
   pub opens : Opens p q
   pub takes : Takes q
 
-pub token-Turn : {A : Type 0} (load : ℕ) (p : Piece → Bool) {f : Piece → Production A} → ((x : Piece) → Alone (f x)) → Turn p (token load p >>= f)
+pub token-Turn : {requires : Bool} {A : Type 0} (load : ℕ) (p : Piece → Bool) {f : Piece → Production A} → ((x : Piece) → Alone requires (f x)) → Turn requires p (token load p >>= f)
 token-Turn load p {f} hf = record {
   alone = then-Alone (token-Alone load p) hf;
   filled = first-Filled f (token-Filled load p);
@@ -271,8 +271,8 @@ token-Turn load p {f} hf = record {
   takes = then-Takes (token-Takes load p) (λ x. (hf x).lawful);
 }
 
-module _ {A : Type 0} (p : Piece → Bool) {step : A → Production A} (hs : (y : A) → Turn p (step y)) where
-  times-Alone : (n : ℕ) (x : A) → Alone (times n p step x)
+module _ {requires : Bool} {A : Type 0} (p : Piece → Bool) {step : A → Production A} (hs : (y : A) → Turn requires p (step y)) where
+  times-Alone : (n : ℕ) (x : A) → Alone requires (times n p step x)
   times-Alone zero x = closed-Alone
   times-Alone (suc n) x = opens-Alone p (then-Alone (hs x).alone (λ y. times-Alone n y)) (give-Alone x) (first-Filled (times n p step) (hs x).filled) (first-Opens (times n p step) (hs x).opens)
 
@@ -280,7 +280,7 @@ module _ {A : Type 0} (p : Piece → Bool) {step : A → Production A} (hs : (y 
   repeat_goes n x l us t rest y (Stays e) = Stays (ok_further (repeat_agrees p (λ z. (hs z).alone.lawful) (λ z. (hs z).takes) x n l (us ++ t ∷ rest)) y (t ∷ rest) e)
   repeat_goes n x l us t rest y (On k) = On record { limit = k.limit; above = k.above; front = (n, k.front) }
 
-  pub repeat-Alone : (x : A) → Alone (repeat p step x)
+  pub repeat-Alone : (x : A) → Alone requires (repeat p step x)
   repeat-Alone x = record {
     lawful = repeat-Lawful p (λ z. (hs z).alone.lawful) (λ z. (hs z).takes) x;
     alone = λ l us t rest y w. (w.0, (times-Alone w.0 x).alone l us t rest y w.1);

@@ -1,5 +1,5 @@
 -- Expressions are trees too where nothing stands behind them.
-use Rattle.std.proofs.Common.{ℕ, zero, suc, Bool, List, codes}
+use Rattle.std.proofs.Common.{ℕ, zero, suc, Bool, List, codes, refl}
 use Rattle.cx_base.specs.declared.place.Place.{Place}
 use Rattle.cx_tree.specs.Trees.{ExprTree, TypeTree, CoreTree}
 use Rattle.cx_grammar.specs.Production.{Production}
@@ -10,10 +10,10 @@ use Rattle.cx_grammar.specs.Expressions.{more_expr, some_exprs, exprs_until, lit
 use Rattle.cx_grammar.proofs.Lawful.{Lawful}
 use Rattle.cx_grammar.proofs.Combinators.{give-Lawful, when-Lawful}
 use Rattle.cx_grammar.proofs.Alone.{Alone, Filled, Opens, Turn, token-Turn, give-Alone, then-Alone, before-Alone, filled-Alone, either-Opens, repeat-Alone, closed-Alone, when-Filled, closed-Filled}
-use Rattle.cx_grammar.proofs.Unbuilt.{requires-Alone, requires-Filled}
-use Rattle.cx_grammar.proofs.AloneTypes.{BelowAlone, aloneness, argument_list-Turn, qualified_names-Alone, qualified_names-Opens, qualified_names-Filled, type_behind-Alone, scalar_behind-Alone, const_type-Alone, const_type-Filled, type_id-Alone, core-Alone, core-Filled}
+use Rattle.cx_grammar.proofs.AloneRequires.{maybe_requires-Alone, maybe_requires-Filled}
+use Rattle.cx_grammar.proofs.AloneTypes.{BelowAlone, aloneness, argument_list-Alone, argument_list-Filled, argument_list-Opens, qualified_names-Alone, qualified_names-Opens, qualified_names-Filled, type_behind-Alone, scalar_behind-Alone, const_type-Alone, const_type-Filled, type_id-Alone, core-Alone, core-Filled}
 
-literal-Alone : (c : Context) (n : ℕ) → Alone (literal c n)
+literal-Alone : {requires : Bool} (c : Context) (n : ℕ) → Alone requires (literal c n)
 unfolding literal
 literal-Alone c n = search aloneness
 
@@ -21,7 +21,7 @@ pub literal-Filled : (c : Context) (n : ℕ) → Filled (literal c n)
 unfolding literal
 literal-Filled c n = search aloneness
 
-truth-Alone : (value : Bool) (text : List ℕ) (c : Context) (n : ℕ) → Alone (truth value text c n)
+truth-Alone : {requires : Bool} (value : Bool) (text : List ℕ) (c : Context) (n : ℕ) → Alone requires (truth value text c n)
 unfolding truth
 truth-Alone value text c n = search aloneness
 
@@ -29,7 +29,7 @@ pub truth-Filled : (value : Bool) (text : List ℕ) (c : Context) (n : ℕ) → 
 unfolding truth
 truth-Filled value text c n = search aloneness
 
-name_alone-Alone : (c : Context) (n : ℕ) → Alone (name_alone c n)
+name_alone-Alone : {requires : Bool} (c : Context) (n : ℕ) → Alone requires (name_alone c n)
 unfolding name_alone
 name_alone-Alone c n = search aloneness
 
@@ -37,7 +37,7 @@ pub name_alone-Filled : (c : Context) (n : ℕ) → Filled (name_alone c n)
 unfolding name_alone
 name_alone-Filled c n = search aloneness
 
-qualified-Alone : (c : Context) (head : Numbered TypeTree) (at : Place) → Alone (qualified c head at)
+qualified-Alone : {requires : Bool} (c : Context) (head : Numbered TypeTree) (at : Place) → Alone requires (qualified c head at)
 unfolding qualified
 qualified-Alone c head at = search (aloneness, qualified_names-Alone)
 
@@ -49,13 +49,13 @@ qualified-Opens : (c : Context) (head : Numbered TypeTree) (at : Place) → Open
 unfolding qualified
 qualified-Opens c head at = search (aloneness, qualified_names-Opens)
 
-with_calling-Alone : (calling : Calling) {p : Production (Numbered ExprTree)} → Alone p → Alone (with_calling calling p)
+with_calling-Alone : {requires : Bool} (calling : Calling) {p : Production (Numbered ExprTree)} → Alone requires p → Alone requires (with_calling calling p)
 with_calling-Alone calling h = search aloneness
 
 pub with_calling-Filled : (calling : Calling) {p : Production (Numbered ExprTree)} → Filled p → Filled (with_calling calling p)
 with_calling-Filled calling h = search aloneness
 
-operator-Alone : (level : ℕ) (c : Context) → Alone (operator level c)
+operator-Alone : {requires : Bool} (level : ℕ) (c : Context) → Alone requires (operator level c)
 unfolding operator
 operator-Alone level c = search aloneness
 
@@ -67,30 +67,30 @@ operator-Opens : (level : ℕ) (c : Context) → Opens (is_operator level c.angl
 unfolding operator
 operator-Opens level c = search aloneness
 
-argument_type-Alone : (c : Context) (k : Numbered (Placed CoreTree)) → Alone (argument_type c k)
+argument_type-Alone : {requires : Bool} (c : Context) (k : Numbered (Placed CoreTree)) → Alone requires (argument_type c k)
 unfolding argument_type
 argument_type-Alone c k = search (aloneness, type_behind-Alone)
 
-uncalled-Alone : (c : Context) (p : Numbered ExprTree × Calling) → Alone (uncalled c p)
+uncalled-Alone : {requires : Bool} (c : Context) (p : Numbered ExprTree × Calling) → Alone requires (uncalled c p)
 unfolding uncalled
 uncalled-Alone c (e, NoCall) = search aloneness
 uncalled-Alone c (e, MayCall) = search aloneness
 uncalled-Alone c (e, MustCall) = search aloneness
 
-module _ {b : Below} (h : BelowAlone b) where
-  more_expr-Turn : (c : Context) (so_far : Numbered (List ExprTree)) → Turn (punct (codes ",")) (more_expr b c so_far)
+module _ {requires : Bool} {b : Below} (h : BelowAlone requires b) where
+  more_expr-Turn : (c : Context) (so_far : Numbered (List ExprTree)) → Turn requires (punct (codes ",")) (more_expr b c so_far)
   unfolding more_expr
   more_expr-Turn c so_far = search (token-Turn, aloneness, h.expr)
 
-  some_exprs-Alone : (c : Context) (n : ℕ) → Alone (some_exprs b c n)
+  some_exprs-Alone : (c : Context) (n : ℕ) → Alone requires (some_exprs b c n)
   unfolding some_exprs
   some_exprs-Alone c n = search (aloneness, repeat-Alone, more_expr-Turn, h.expr)
 
-  pub exprs_until-Lawful : (closing : List ℕ) (c : Context) (n : ℕ) → Lawful (exprs_until closing b c n)
+  pub exprs_until-Lawful : (closing : List ℕ) (c : Context) (n : ℕ) → Lawful requires (exprs_until closing b c n)
   unfolding exprs_until
   exprs_until-Lawful closing c n = when-Lawful (punct closing) (give-Lawful _) (some_exprs-Alone c n).lawful
 
-  group-Alone : (c : Context) (n : ℕ) → Alone (group b c n)
+  group-Alone : (c : Context) (n : ℕ) → Alone requires (group b c n)
   unfolding group
   group-Alone c n = search (aloneness, h.expr) depth 10
 
@@ -98,7 +98,7 @@ module _ {b : Below} (h : BelowAlone b) where
   unfolding group
   group-Filled c n = search aloneness
 
-  static_cast-Alone : (c : Context) (n : ℕ) → Alone (static_cast b c n)
+  static_cast-Alone : (c : Context) (n : ℕ) → Alone requires (static_cast b c n)
   unfolding static_cast
   static_cast-Alone c n = search (aloneness, h.expr, h.type) depth 10
 
@@ -106,7 +106,7 @@ module _ {b : Below} (h : BelowAlone b) where
   unfolding static_cast
   static_cast-Filled c n = search aloneness
 
-  is_same-Alone : (c : Context) (n : ℕ) → Alone (is_same b c n)
+  is_same-Alone : (c : Context) (n : ℕ) → Alone requires (is_same b c n)
   unfolding is_same
   is_same-Alone c n = search (aloneness, h.type) depth 10
 
@@ -114,7 +114,7 @@ module _ {b : Below} (h : BelowAlone b) where
   unfolding is_same
   is_same-Filled c n = search aloneness
 
-  out-Alone : (c : Context) (n : ℕ) → Alone (out b c n)
+  out-Alone : (c : Context) (n : ℕ) → Alone requires (out b c n)
   unfolding out
   out-Alone c n = search (aloneness, h.expr) depth 10
 
@@ -122,7 +122,7 @@ module _ {b : Below} (h : BelowAlone b) where
   unfolding out
   out-Filled c n = search aloneness
 
-  list-Alone : (c : Context) (of : Numbered TypeTree) (at : Place) → Alone (list b c of at)
+  list-Alone : (c : Context) (of : Numbered TypeTree) (at : Place) → Alone requires (list b c of at)
   unfolding list
   list-Alone c of at = search (aloneness, before-Alone, exprs_until-Lawful) depth 7
 
@@ -134,7 +134,7 @@ module _ {b : Below} (h : BelowAlone b) where
   unfolding list
   list-Opens c of at = search aloneness
 
-  pub behind_head-Alone : (c : Context) (k : Numbered (Placed CoreTree)) → Alone (behind_head b c k)
+  pub behind_head-Alone : (c : Context) (k : Numbered (Placed CoreTree)) → Alone requires (behind_head b c k)
   unfolding behind_head
   behind_head-Alone c k = search (aloneness, list-Alone, list-Filled, qualified-Alone, qualified-Filled)
 
@@ -142,7 +142,7 @@ module _ {b : Below} (h : BelowAlone b) where
   unfolding behind_head
   behind_head-Filled c k = search (aloneness, list-Filled, qualified-Filled)
 
-  pub behind_core-Alone : (c : Context) (k : Numbered (Placed CoreTree)) → Alone (behind_core b c k)
+  pub behind_core-Alone : (c : Context) (k : Numbered (Placed CoreTree)) → Alone requires (behind_core b c k)
   unfolding behind_core
   behind_core-Alone c k = search (aloneness, list-Alone)
 
@@ -154,7 +154,7 @@ module _ {b : Below} (h : BelowAlone b) where
   unfolding behind_core
   behind_core-Opens c k = search (aloneness, list-Opens)
 
-  headed-Alone : (c : Context) (n : ℕ) → Alone (headed b c n)
+  headed-Alone : (c : Context) (n : ℕ) → Alone requires (headed b c n)
   unfolding headed
   headed-Alone c n = search (aloneness, h.core, behind_head-Alone)
 
@@ -162,7 +162,7 @@ module _ {b : Below} (h : BelowAlone b) where
   unfolding headed
   headed-Filled c n = search (aloneness, h.some_core)
 
-  cored-Alone : (c : Context) (n : ℕ) → Alone (cored b c n)
+  cored-Alone : (c : Context) (n : ℕ) → Alone requires (cored b c n)
   unfolding cored
   cored-Alone c n = search (aloneness, h.core, behind_core-Alone)
 
@@ -170,7 +170,7 @@ module _ {b : Below} (h : BelowAlone b) where
   unfolding cored
   cored-Filled c n = search (aloneness, h.some_core)
 
-  word_list-Alone : (c : Context) (n : ℕ) → Alone (word_list b c n)
+  word_list-Alone : (c : Context) (n : ℕ) → Alone requires (word_list b c n)
   unfolding word_list
   word_list-Alone c n = search (aloneness, behind_core-Alone)
 
@@ -178,16 +178,7 @@ module _ {b : Below} (h : BelowAlone b) where
   unfolding word_list
   word_list-Filled c n = search aloneness
 
-  argument_list-Alone : (c : Context) (n : ℕ) → Alone (Rattle.cx_grammar.specs.Types.argument_list b c n)
-  argument_list-Alone c n = (argument_list-Turn h c n).alone
-
-  pub argument_list-Filled : (c : Context) (n : ℕ) → Filled (Rattle.cx_grammar.specs.Types.argument_list b c n)
-  argument_list-Filled c n = (argument_list-Turn h c n).filled
-
-  pub argument_list-Opens : (c : Context) (n : ℕ) → Opens (punct (codes "<")) (Rattle.cx_grammar.specs.Types.argument_list b c n)
-  argument_list-Opens c n = (argument_list-Turn h c n).opens
-
-  named-Alone : (calling : Calling) (c : Context) (n : ℕ) → Alone (named calling b c n)
+  named-Alone : (calling : Calling) (c : Context) (n : ℕ) → Alone requires (named calling b c n)
   unfolding named
   named-Alone calling c n = search (aloneness, argument_list-Alone, argument_list-Filled, argument_list-Opens)
 
@@ -197,17 +188,17 @@ module _ {b : Below} (h : BelowAlone b) where
 
   pub worded-Filled : (c : Context) (n : ℕ) → Filled (worded b c n)
   unfolding worded
-  worded-Filled c n = search (requires-Filled, aloneness, with_calling-Filled, truth-Filled, is_same-Filled, out-Filled, group-Filled) depth 10
+  worded-Filled c n = search (aloneness, with_calling-Filled, maybe_requires-Filled, truth-Filled, is_same-Filled, out-Filled, group-Filled) depth 10
 
-  worded-Alone : (c : Context) (n : ℕ) → Alone (worded b c n)
+  worded-Alone : (c : Context) (n : ℕ) → Alone requires (worded b c n)
   unfolding worded
-  worded-Alone c n = search (requires-Alone, requires-Filled, filled-Alone, when-Filled, with_calling-Alone, with_calling-Filled, truth-Alone, is_same-Alone, out-Alone, group-Alone, truth-Filled, is_same-Filled, out-Filled, group-Filled) depth 10
+  worded-Alone c n = search (filled-Alone, when-Filled, maybe_requires-Alone, maybe_requires-Filled, with_calling-Alone, with_calling-Filled, truth-Alone, is_same-Alone, out-Alone, group-Alone, truth-Filled, is_same-Filled, out-Filled, group-Filled) depth 10
 
   pub simple_primary-Filled : (c : Context) (n : ℕ) → Filled (simple_primary b c n)
   unfolding simple_primary
   simple_primary-Filled c n = search (aloneness, with_calling-Filled, literal-Filled, named-Filled, name_alone-Filled, worded-Filled) depth 8
 
-  simple_primary-Alone : (c : Context) (n : ℕ) → Alone (simple_primary b c n)
+  simple_primary-Alone : (c : Context) (n : ℕ) → Alone requires (simple_primary b c n)
   unfolding simple_primary
   simple_primary-Alone c n = search (filled-Alone, when-Filled, with_calling-Alone, with_calling-Filled, literal-Alone, named-Alone, name_alone-Alone, worded-Alone, literal-Filled, named-Filled, name_alone-Filled, worded-Filled) depth 8
 
@@ -215,11 +206,11 @@ module _ {b : Below} (h : BelowAlone b) where
   unfolding primary
   primary-Filled c n = search (aloneness, with_calling-Filled, headed-Filled, cored-Filled, word_list-Filled, static_cast-Filled, simple_primary-Filled) depth 9
 
-  primary-Alone : (c : Context) (n : ℕ) → Alone (primary b c n)
+  primary-Alone : (c : Context) (n : ℕ) → Alone requires (primary b c n)
   unfolding primary
   primary-Alone c n = search (aloneness, with_calling-Alone, headed-Alone, cored-Alone, word_list-Alone, static_cast-Alone, simple_primary-Alone, headed-Filled, cored-Filled, word_list-Filled, static_cast-Filled, simple_primary-Filled) depth 9
 
-  call-Alone : (c : Context) (e : Numbered ExprTree) → Alone (call b c e)
+  call-Alone : (c : Context) (e : Numbered ExprTree) → Alone requires (call b c e)
   unfolding call
   call-Alone c e = search (aloneness, h.called)
 
@@ -231,7 +222,7 @@ module _ {b : Below} (h : BelowAlone b) where
   unfolding call
   call-Opens c e = search aloneness
 
-  member-Alone : (c : Context) (e : Numbered ExprTree) → Alone (member b c e)
+  member-Alone : (c : Context) (e : Numbered ExprTree) → Alone requires (member b c e)
   unfolding member
   member-Alone c e = search (aloneness, h.tail)
 
@@ -243,7 +234,7 @@ module _ {b : Below} (h : BelowAlone b) where
   unfolding member
   member-Opens c e = search aloneness
 
-  step-Alone : (c : Context) (e : Numbered ExprTree) → Alone (step b c e)
+  step-Alone : (c : Context) (e : Numbered ExprTree) → Alone requires (step b c e)
   unfolding step
   step-Alone c e = search (aloneness, h.tail)
 
@@ -255,21 +246,21 @@ module _ {b : Below} (h : BelowAlone b) where
   unfolding step
   step-Opens c e = search aloneness
 
-  tail_behind-Alone : (c : Context) (e : Numbered ExprTree) → Alone (tail_behind b c e)
+  tail_behind-Alone : (c : Context) (e : Numbered ExprTree) → Alone requires (tail_behind b c e)
   unfolding tail_behind
   tail_behind-Alone c e = search (aloneness, member-Alone, member-Filled, member-Opens, step-Alone, step-Filled, step-Opens)
 
-  called-Alone : (c : Context) (e : Numbered ExprTree) → Alone (called b c e)
+  called-Alone : (c : Context) (e : Numbered ExprTree) → Alone requires (called b c e)
   unfolding called
   called-Alone c e = search (aloneness, before-Alone, exprs_until-Lawful, tail_behind-Alone)
 
-  pub tail-Alone : (calling : Calling) (c : Context) (e : Numbered ExprTree) → Alone (tail b calling c e)
+  pub tail-Alone : (calling : Calling) (c : Context) (e : Numbered ExprTree) → Alone requires (tail b calling c e)
   unfolding tail
   tail-Alone NoCall c e = tail_behind-Alone c e
   tail-Alone MayCall c e = search (aloneness, call-Alone, call-Filled, call-Opens, tail_behind-Alone)
   tail-Alone MustCall c e = call-Alone c e
 
-  postfix-Alone : (c : Context) (n : ℕ) → Alone (postfix b c n)
+  postfix-Alone : (c : Context) (n : ℕ) → Alone requires (postfix b c n)
   unfolding postfix
   postfix-Alone c n = search (aloneness, primary-Alone, tail-Alone)
 
@@ -277,7 +268,7 @@ module _ {b : Below} (h : BelowAlone b) where
   unfolding postfix
   postfix-Filled c n = search (aloneness, primary-Filled)
 
-  prefixed-Alone : (c : Context) (n : ℕ) → Alone (prefixed b c n)
+  prefixed-Alone : (c : Context) (n : ℕ) → Alone requires (prefixed b c n)
   unfolding prefixed
   prefixed-Alone c n = search (aloneness, h.unary)
 
@@ -285,7 +276,7 @@ module _ {b : Below} (h : BelowAlone b) where
   unfolding prefixed
   prefixed-Filled c n = search aloneness
 
-  pub unary-Alone : (c : Context) (n : ℕ) → Alone (unary b c n)
+  pub unary-Alone : (c : Context) (n : ℕ) → Alone requires (unary b c n)
   unfolding unary
   unary-Alone c n = search (aloneness, prefixed-Alone, prefixed-Filled, postfix-Alone, postfix-Filled)
 
@@ -293,7 +284,7 @@ module _ {b : Below} (h : BelowAlone b) where
   unfolding unary
   unary-Filled c n = search (aloneness, prefixed-Filled, postfix-Filled)
 
-  binary_chain-Alone : (level : ℕ) (c : Context) (e : Numbered ExprTree) → Alone (binary_chain b level c e)
+  binary_chain-Alone : (level : ℕ) (c : Context) (e : Numbered ExprTree) → Alone requires (binary_chain b level c e)
   unfolding binary_chain
   binary_chain-Alone level c e = search (aloneness, operator-Alone, h.operand, h.binary_rest)
 
@@ -305,20 +296,20 @@ module _ {b : Below} (h : BelowAlone b) where
   unfolding binary_chain
   binary_chain-Opens level c e = search (aloneness, operator-Opens)
 
-  binary_rest-Alone : (level : ℕ) (c : Context) (e : Numbered ExprTree) → Alone (binary_rest b level c e)
+  binary_rest-Alone : (level : ℕ) (c : Context) (e : Numbered ExprTree) → Alone requires (binary_rest b level c e)
   unfolding binary_rest
   binary_rest-Alone level c e = search (aloneness, binary_chain-Alone, binary_chain-Filled, binary_chain-Opens)
 
-  pub rests-Alone : (level : ℕ) (c : Context) (e : Numbered ExprTree) → Alone (rests b level c e)
+  pub rests-Alone : (level : ℕ) (c : Context) (e : Numbered ExprTree) → Alone requires (rests b level c e)
   unfolding rests
   rests-Alone zero c e = give-Alone e
   rests-Alone (suc level) c e = then-Alone (rests-Alone level c e) (λ left. binary_rest-Alone level c left)
 
-  operand-Alone : (level : ℕ) (c : Context) (n : ℕ) → Alone (operand b level c n)
+  operand-Alone : (level : ℕ) (c : Context) (n : ℕ) → Alone requires (operand b level c n)
   unfolding operand
   operand-Alone level c n = search (aloneness, unary-Alone, rests-Alone)
 
-  conditional-Alone : (c : Context) (e : Numbered ExprTree) → Alone (conditional b c e)
+  conditional-Alone : (c : Context) (e : Numbered ExprTree) → Alone requires (conditional b c e)
   unfolding conditional
   conditional-Alone c e = search (aloneness, h.expr) depth 7
 
@@ -330,7 +321,7 @@ module _ {b : Below} (h : BelowAlone b) where
   unfolding conditional
   conditional-Opens c e = search aloneness
 
-  assignment-Alone : (c : Context) (e : Numbered ExprTree) → Alone (assignment b c e)
+  assignment-Alone : (c : Context) (e : Numbered ExprTree) → Alone requires (assignment b c e)
   unfolding assignment
   assignment-Alone c e = search (aloneness, h.expr)
 
@@ -342,11 +333,11 @@ module _ {b : Below} (h : BelowAlone b) where
   unfolding assignment
   assignment-Opens c e = search aloneness
 
-  pub expr_behind-Alone : (c : Context) (e : Numbered ExprTree) → Alone (expr_behind b c e)
+  pub expr_behind-Alone : (c : Context) (e : Numbered ExprTree) → Alone requires (expr_behind b c e)
   unfolding expr_behind
   expr_behind-Alone c e = search (aloneness, rests-Alone, conditional-Alone, conditional-Filled, conditional-Opens, assignment-Alone, assignment-Filled, assignment-Opens)
 
-  pub expr-Alone : (c : Context) (n : ℕ) → Alone (expr b c n)
+  pub expr-Alone : (c : Context) (n : ℕ) → Alone requires (expr b c n)
   unfolding expr
   expr-Alone c n = search (aloneness, unary-Alone, expr_behind-Alone)
 
@@ -354,11 +345,11 @@ module _ {b : Below} (h : BelowAlone b) where
   unfolding expr
   expr-Filled c n = search (aloneness, unary-Filled)
 
-  argument_of-Alone : (c : Context) (p : Numbered ExprTree) → Alone (argument_of b c p)
+  argument_of-Alone : (c : Context) (p : Numbered ExprTree) → Alone requires (argument_of b c p)
   unfolding argument_of
   argument_of-Alone c p = search (aloneness, tail-Alone, expr_behind-Alone)
 
-  core_argument-Alone : (c : Context) (k : Numbered (Placed CoreTree)) → Alone (core_argument b c k)
+  core_argument-Alone : (c : Context) (k : Numbered (Placed CoreTree)) → Alone requires (core_argument b c k)
   unfolding core_argument
   core_argument-Alone c k = search (aloneness, behind_core-Alone, behind_core-Filled, behind_core-Opens, argument_of-Alone, argument_type-Alone)
 
@@ -366,11 +357,11 @@ module _ {b : Below} (h : BelowAlone b) where
   unfolding behind_head
   goes_on-Opens c k = either-Opens (punct (codes "{")) (punct (codes "::")) (list-Opens c _ _) (qualified-Opens c _ _)
 
-  head_argument-Alone : (c : Context) (k : Numbered (Placed CoreTree)) → Alone (head_argument b c k)
+  head_argument-Alone : (c : Context) (k : Numbered (Placed CoreTree)) → Alone requires (head_argument b c k)
   unfolding head_argument
   head_argument-Alone c k = search (aloneness, behind_head-Alone, behind_head-Filled, goes_on-Opens, argument_of-Alone, argument_type-Alone)
 
-  word_argument-Alone : (c : Context) (n : ℕ) → Alone (word_argument b c n)
+  word_argument-Alone : (c : Context) (n : ℕ) → Alone requires (word_argument b c n)
   unfolding word_argument
   word_argument-Alone c n = search (aloneness, behind_core-Alone, behind_core-Filled, behind_core-Opens, argument_of-Alone, scalar_behind-Alone, argument_type-Alone) depth 7
 
@@ -378,7 +369,7 @@ module _ {b : Below} (h : BelowAlone b) where
   unfolding word_argument
   word_argument-Filled c n = search aloneness
 
-  core_type_argument-Alone : (c : Context) (n : ℕ) → Alone (core_type_argument b c n)
+  core_type_argument-Alone : (c : Context) (n : ℕ) → Alone requires (core_type_argument b c n)
   unfolding core_type_argument
   core_type_argument-Alone c n = search (aloneness, h.core, argument_type-Alone)
 
@@ -386,32 +377,33 @@ module _ {b : Below} (h : BelowAlone b) where
   unfolding core_type_argument
   core_type_argument-Filled c n = search (aloneness, h.some_core)
 
-  argument-Alone : (c : Context) (n : ℕ) → Alone (argument b c n)
+  argument-Alone : (c : Context) (n : ℕ) → Alone requires (argument b c n)
   unfolding argument
   argument-Alone c n = search (aloneness, const_type-Alone, const_type-Filled, h.core, h.some_core, head_argument-Alone, core_argument-Alone, word_argument-Alone, word_argument-Filled, core_type_argument-Alone, core_type_argument-Filled, expr-Alone, expr-Filled) depth 10
 
-  clause_primary-Alone : (c : Context) (n : ℕ) → Alone (clause_primary b c n)
+  clause_primary-Alone : (c : Context) (n : ℕ) → Alone requires (clause_primary b c n)
   unfolding clause_primary
   clause_primary-Alone c n = search (aloneness, h.core, h.some_core, qualified-Alone, simple_primary-Alone, simple_primary-Filled, uncalled-Alone)
 
-  and_rest-Alone : (c : Context) (e : Numbered ExprTree) → Alone (and_rest b c e)
+  and_rest-Alone : (c : Context) (e : Numbered ExprTree) → Alone requires (and_rest b c e)
   unfolding and_rest
   and_rest-Alone c e = search (aloneness, h.clause_primary, h.and_rest)
 
-  conjunction-Alone : (c : Context) (n : ℕ) → Alone (conjunction b c n)
+  conjunction-Alone : (c : Context) (n : ℕ) → Alone requires (conjunction b c n)
   unfolding conjunction
   conjunction-Alone c n = search (aloneness, clause_primary-Alone, and_rest-Alone)
 
-  or_rest-Alone : (c : Context) (e : Numbered ExprTree) → Alone (or_rest b c e)
+  or_rest-Alone : (c : Context) (e : Numbered ExprTree) → Alone requires (or_rest b c e)
   unfolding or_rest
   or_rest-Alone c e = search (aloneness, h.conjunction, h.or_rest)
 
-  pub clause-Alone : (c : Context) (n : ℕ) → Alone (clause b c n)
+  pub clause-Alone : (c : Context) (n : ℕ) → Alone requires (clause b c n)
   unfolding clause
   clause-Alone c n = search (aloneness, conjunction-Alone, or_rest-Alone)
 
-  above-Alone : BelowAlone (above b)
+  above-Alone : BelowAlone requires (above b)
   above-Alone = record {
+    reads = h.reads;
     expr = expr-Alone;
     unary = unary-Alone;
     binary_rest = binary_rest-Alone;
@@ -428,8 +420,9 @@ module _ {b : Below} (h : BelowAlone b) where
     some_core = core-Filled h;
   }
 
-nothing-Alone : BelowAlone nothing_below
+nothing-Alone : {requires : Bool} → BelowAlone requires (nothing_below requires)
 nothing-Alone = record {
+  reads = refl;
   expr = λ c n. closed-Alone;
   unary = λ c n. closed-Alone;
   binary_rest = λ level c e. closed-Alone;
@@ -446,7 +439,7 @@ nothing-Alone = record {
   some_core = λ c n. closed-Filled;
 }
 
-pub levels-Alone : (n : ℕ) → BelowAlone (levels n)
+pub levels-Alone : {requires : Bool} (n : ℕ) → BelowAlone requires (levels requires n)
 unfolding levels
 levels-Alone zero = nothing-Alone
 levels-Alone (suc n) = above-Alone (levels-Alone n)

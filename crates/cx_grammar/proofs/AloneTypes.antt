@@ -1,5 +1,5 @@
 -- Types are trees too where nothing stands behind them.
-use Rattle.std.proofs.Common.{ℕ, Bool, true, false, List, codes}
+use Rattle.std.proofs.Common.{◌≡◌, ℕ, Bool, true, false, List, codes}
 use Rattle.cx_base.specs.declared.place.Place.{Place}
 use Rattle.cx_base.specs.declared.value.Scalar.{Scalar}
 use Rattle.cx_tree.specs.Trees.{ExprTree, CoreTree, ArgumentTree}
@@ -10,54 +10,55 @@ use Rattle.cx_grammar.specs.Types.{Numbered, Calling, Below, maybe_int, long_lon
 use Rattle.cx_grammar.proofs.Alone.{Alone, Filled, Opens, Turn, token-Turn, give-Alone, token-Alone, then-Alone, given-Alone, opens-Alone, filled-Alone, repeat-Alone, token-Filled, first-Filled, when-Filled, token-Opens, first-Opens}
 
 -- the productions of a level
-pub record BelowAlone (b : Below) : Type 0 where
-  pub expr : (c : Context) (n : ℕ) → Alone (b.expr c n)
-  pub unary : (c : Context) (n : ℕ) → Alone (b.unary c n)
-  pub binary_rest : (level : ℕ) (c : Context) (e : Numbered ExprTree) → Alone (b.binary_rest level c e)
-  pub operand : (level : ℕ) (c : Context) (n : ℕ) → Alone (b.operand level c n)
-  pub tail : (calling : Calling) (c : Context) (e : Numbered ExprTree) → Alone (b.tail calling c e)
-  pub called : (c : Context) (e : Numbered ExprTree) → Alone (b.called c e)
-  pub type : (c : Context) (n : ℕ) → Alone (b.type c n)
-  pub core : (c : Context) (n : ℕ) → Alone (b.core c n)
-  pub argument : (c : Context) (n : ℕ) → Alone (b.argument c n)
-  pub clause_primary : (c : Context) (n : ℕ) → Alone (b.clause_primary c n)
-  pub and_rest : (c : Context) (e : Numbered ExprTree) → Alone (b.and_rest c e)
-  pub conjunction : (c : Context) (n : ℕ) → Alone (b.conjunction c n)
-  pub or_rest : (c : Context) (e : Numbered ExprTree) → Alone (b.or_rest c e)
+pub record BelowAlone (requires : Bool) (b : Below) : Type 0 where
+  pub reads : b.requires ≡ requires
+  pub expr : (c : Context) (n : ℕ) → Alone requires (b.expr c n)
+  pub unary : (c : Context) (n : ℕ) → Alone requires (b.unary c n)
+  pub binary_rest : (level : ℕ) (c : Context) (e : Numbered ExprTree) → Alone requires (b.binary_rest level c e)
+  pub operand : (level : ℕ) (c : Context) (n : ℕ) → Alone requires (b.operand level c n)
+  pub tail : (calling : Calling) (c : Context) (e : Numbered ExprTree) → Alone requires (b.tail calling c e)
+  pub called : (c : Context) (e : Numbered ExprTree) → Alone requires (b.called c e)
+  pub type : (c : Context) (n : ℕ) → Alone requires (b.type c n)
+  pub core : (c : Context) (n : ℕ) → Alone requires (b.core c n)
+  pub argument : (c : Context) (n : ℕ) → Alone requires (b.argument c n)
+  pub clause_primary : (c : Context) (n : ℕ) → Alone requires (b.clause_primary c n)
+  pub and_rest : (c : Context) (e : Numbered ExprTree) → Alone requires (b.and_rest c e)
+  pub conjunction : (c : Context) (n : ℕ) → Alone requires (b.conjunction c n)
+  pub or_rest : (c : Context) (e : Numbered ExprTree) → Alone requires (b.or_rest c e)
   pub some_core : (c : Context) (n : ℕ) → Filled (b.core c n)
 
 pub ruleset aloneness = (give-Alone, token-Alone, then-Alone, given-Alone, opens-Alone, filled-Alone, token-Filled, first-Filled, when-Filled, token-Opens, first-Opens)
 
-maybe_int-Alone : (c : Context) (s : Scalar) → Alone (maybe_int c s)
+maybe_int-Alone : {requires : Bool} (c : Context) (s : Scalar) → Alone requires (maybe_int c s)
 unfolding maybe_int
 maybe_int-Alone c s = search aloneness
 
-long_long-Turn : (c : Context) (s : Scalar) → Turn (word (codes "long")) (long_long c s)
+long_long-Turn : {requires : Bool} (c : Context) (s : Scalar) → Turn requires (word (codes "long")) (long_long c s)
 unfolding long_long
 long_long-Turn c s = search (token-Turn, aloneness, maybe_int-Alone)
 
-long_long-Alone : (c : Context) (s : Scalar) → Alone (long_long c s)
+long_long-Alone : {requires : Bool} (c : Context) (s : Scalar) → Alone requires (long_long c s)
 long_long-Alone c s = (long_long-Turn c s).alone
 
 pub long_long-Filled : (c : Context) (s : Scalar) → Filled (long_long c s)
-long_long-Filled c s = (long_long-Turn c s).filled
+long_long-Filled c s = (long_long-Turn {requires = false} c s).filled
 
 long_long-Opens : (c : Context) (s : Scalar) → Opens (word (codes "long")) (long_long c s)
-long_long-Opens c s = (long_long-Turn c s).opens
+long_long-Opens c s = (long_long-Turn {requires = false} c s).opens
 
-behind_long_long-Alone : (c : Context) → Alone (behind_long_long c)
+behind_long_long-Alone : {requires : Bool} (c : Context) → Alone requires (behind_long_long c)
 unfolding behind_long_long
 behind_long_long-Alone c = search (aloneness, maybe_int-Alone)
 
-behind_sign-Alone : (c : Context) (s l : Scalar) → Alone (behind_sign c s l)
+behind_sign-Alone : {requires : Bool} (c : Context) (s l : Scalar) → Alone requires (behind_sign c s l)
 unfolding behind_sign
 behind_sign-Alone c s l = search (aloneness, maybe_int-Alone, long_long-Alone, long_long-Filled, long_long-Opens)
 
-pub scalar_behind-Alone : (c : Context) (t : Piece) → Alone (scalar_behind c t)
+pub scalar_behind-Alone : {requires : Bool} (c : Context) (t : Piece) → Alone requires (scalar_behind c t)
 unfolding scalar_behind
 scalar_behind-Alone c t = search (aloneness, behind_sign-Alone)
 
-word_core-Alone : (c : Context) → Alone (word_core c)
+word_core-Alone : {requires : Bool} (c : Context) → Alone requires (word_core c)
 unfolding word_core
 word_core-Alone c = search (aloneness, scalar_behind-Alone)
 
@@ -65,7 +66,7 @@ pub word_core-Filled : (c : Context) → Filled (word_core c)
 unfolding word_core
 word_core-Filled c = search aloneness
 
-long_core-Alone : (c : Context) → Alone (long_core c)
+long_core-Alone : {requires : Bool} (c : Context) → Alone requires (long_core c)
 unfolding long_core
 long_core-Alone c = search (aloneness, behind_long_long-Alone)
 
@@ -73,7 +74,7 @@ pub long_core-Filled : (c : Context) → Filled (long_core c)
 unfolding long_core
 long_core-Filled c = search aloneness
 
-scalar_core-Alone : (c : Context) → Alone (scalar_core c)
+scalar_core-Alone : {requires : Bool} (c : Context) → Alone requires (scalar_core c)
 unfolding scalar_core
 scalar_core-Alone c = search (aloneness, word_core-Alone, long_core-Alone, word_core-Filled, long_core-Filled)
 
@@ -81,11 +82,11 @@ pub scalar_core-Filled : (c : Context) → Filled (scalar_core c)
 unfolding scalar_core
 scalar_core-Filled c = search (aloneness, word_core-Filled, long_core-Filled)
 
-more_name-Turn : (c : Context) (so_far : List (List ℕ)) → Turn (punct (codes "::")) (more_name c so_far)
+more_name-Turn : {requires : Bool} (c : Context) (so_far : List (List ℕ)) → Turn requires (punct (codes "::")) (more_name c so_far)
 unfolding more_name
 more_name-Turn c so_far = search (token-Turn, aloneness)
 
-pub qualified_names-Alone : (c : Context) → Alone (qualified_names c)
+pub qualified_names-Alone : {requires : Bool} (c : Context) → Alone requires (qualified_names c)
 unfolding qualified_names
 qualified_names-Alone c = search (aloneness, repeat-Alone, more_name-Turn)
 
@@ -97,7 +98,7 @@ pub qualified_names-Filled : (c : Context) → Filled (qualified_names c)
 unfolding qualified_names
 qualified_names-Filled c = search aloneness
 
-type_name_core-Alone : (c : Context) (n : ℕ) → Alone (type_name_core c n)
+pub type_name_core-Alone : {requires : Bool} (c : Context) (n : ℕ) → Alone requires (type_name_core c n)
 unfolding type_name_core
 type_name_core-Alone c n = search aloneness
 
@@ -105,7 +106,7 @@ pub type_name_core-Filled : (c : Context) (n : ℕ) → Filled (type_name_core c
 unfolding type_name_core
 type_name_core-Filled c n = search aloneness
 
-void_core-Alone : (c : Context) (n : ℕ) → Alone (void_core c n)
+void_core-Alone : {requires : Bool} (c : Context) (n : ℕ) → Alone requires (void_core c n)
 unfolding void_core
 void_core-Alone c n = search aloneness
 
@@ -113,7 +114,7 @@ pub void_core-Filled : (c : Context) (n : ℕ) → Filled (void_core c n)
 unfolding void_core
 void_core-Filled c n = search aloneness
 
-scalar_only-Alone : (c : Context) (n : ℕ) → Alone (scalar_only c n)
+scalar_only-Alone : {requires : Bool} (c : Context) (n : ℕ) → Alone requires (scalar_only c n)
 unfolding scalar_only
 scalar_only-Alone c n = search (aloneness, scalar_core-Alone)
 
@@ -121,36 +122,42 @@ pub scalar_only-Filled : (c : Context) (n : ℕ) → Filled (scalar_only c n)
 unfolding scalar_only
 scalar_only-Filled c n = search (aloneness, scalar_core-Filled)
 
-maybe_const-Alone : (c : Context) (before : Bool) → Alone (maybe_const c before)
+maybe_const-Alone : {requires : Bool} (c : Context) (before : Bool) → Alone requires (maybe_const c before)
 unfolding maybe_const
 maybe_const-Alone c true = search aloneness
 maybe_const-Alone c false = search aloneness
 
-maybe_reference-Alone : (c : Context) → Alone (maybe_reference c)
+maybe_reference-Alone : {requires : Bool} (c : Context) → Alone requires (maybe_reference c)
 unfolding maybe_reference
 maybe_reference-Alone c = search aloneness
 
-pub type_behind-Alone : (c : Context) (at : Place) (before : Bool) (k : Numbered CoreTree) → Alone (type_behind c at before k)
+pub type_behind-Alone : {requires : Bool} (c : Context) (at : Place) (before : Bool) (k : Numbered CoreTree) → Alone requires (type_behind c at before k)
 unfolding type_behind
 type_behind-Alone c at before k = search (aloneness, maybe_const-Alone, maybe_reference-Alone)
 
-module _ {b : Below} (h : BelowAlone b) where
-  more_argument-Turn : (c : Context) (so_far : Numbered (List ArgumentTree)) → Turn (punct (codes ",")) (more_argument b c so_far)
+module _ {requires : Bool} {b : Below} (h : BelowAlone requires b) where
+  more_argument-Turn : (c : Context) (so_far : Numbered (List ArgumentTree)) → Turn requires (punct (codes ",")) (more_argument b c so_far)
   unfolding more_argument
   more_argument-Turn c so_far = search (token-Turn, aloneness, h.argument)
 
-  some_arguments-Alone : (c : Context) (n : ℕ) → Alone (some_arguments b c n)
+  some_arguments-Alone : (c : Context) (n : ℕ) → Alone requires (some_arguments b c n)
   unfolding some_arguments
   some_arguments-Alone c n = search (aloneness, repeat-Alone, more_argument-Turn, h.argument)
 
-  pub argument_list-Turn : (c : Context) (n : ℕ) → Turn (punct (codes "<")) (argument_list b c n)
+  argument_list-Turn : (c : Context) (n : ℕ) → Turn requires (punct (codes "<")) (argument_list b c n)
   unfolding argument_list
   argument_list-Turn c n = search (token-Turn, aloneness, some_arguments-Alone)
 
-  pub argument_list-Alone : (c : Context) (n : ℕ) → Alone (argument_list b c n)
+  pub argument_list-Alone : (c : Context) (n : ℕ) → Alone requires (argument_list b c n)
   argument_list-Alone c n = (argument_list-Turn c n).alone
 
-  class_core-Alone : (c : Context) (n : ℕ) → Alone (class_core b c n)
+  pub argument_list-Filled : (c : Context) (n : ℕ) → Filled (argument_list b c n)
+  argument_list-Filled c n = (argument_list-Turn c n).filled
+
+  pub argument_list-Opens : (c : Context) (n : ℕ) → Opens (punct (codes "<")) (argument_list b c n)
+  argument_list-Opens c n = (argument_list-Turn c n).opens
+
+  pub class_core-Alone : (c : Context) (n : ℕ) → Alone requires (class_core b c n)
   unfolding class_core
   class_core-Alone c n = search (aloneness, argument_list-Alone)
 
@@ -158,7 +165,7 @@ module _ {b : Below} (h : BelowAlone b) where
   unfolding class_core
   class_core-Filled c n = search aloneness
 
-  head_core-Alone : (c : Context) (n : ℕ) → Alone (head_core b c n)
+  head_core-Alone : (c : Context) (n : ℕ) → Alone requires (head_core b c n)
   unfolding head_core
   head_core-Alone c n = search (aloneness, class_core-Alone, class_core-Filled, type_name_core-Alone, type_name_core-Filled)
 
@@ -166,7 +173,7 @@ module _ {b : Below} (h : BelowAlone b) where
   unfolding head_core
   head_core-Filled c n = search (aloneness, class_core-Filled, type_name_core-Filled)
 
-  member_core-Alone : (c : Context) (n : ℕ) → Alone (member_core b c n)
+  member_core-Alone : (c : Context) (n : ℕ) → Alone requires (member_core b c n)
   unfolding member_core
   member_core-Alone c n = search (aloneness, head_core-Alone, qualified_names-Alone)
 
@@ -174,7 +181,7 @@ module _ {b : Below} (h : BelowAlone b) where
   unfolding member_core
   member_core-Filled c n = search aloneness
 
-  decltype_core-Alone : (c : Context) (n : ℕ) → Alone (decltype_core b c n)
+  decltype_core-Alone : (c : Context) (n : ℕ) → Alone requires (decltype_core b c n)
   unfolding decltype_core
   decltype_core-Alone c n = search (aloneness, h.expr) depth 7
 
@@ -182,7 +189,7 @@ module _ {b : Below} (h : BelowAlone b) where
   unfolding decltype_core
   decltype_core-Filled c n = search aloneness
 
-  pub core-Alone : (c : Context) (n : ℕ) → Alone (core b c n)
+  pub core-Alone : (c : Context) (n : ℕ) → Alone requires (core b c n)
   unfolding core
   core-Alone c n = search (aloneness, head_core-Alone, member_core-Alone, decltype_core-Alone, void_core-Alone, scalar_only-Alone, head_core-Filled, member_core-Filled, decltype_core-Filled, void_core-Filled, scalar_only-Filled) depth 7
 
@@ -190,7 +197,7 @@ module _ {b : Below} (h : BelowAlone b) where
   unfolding core
   core-Filled c n = search (aloneness, head_core-Filled, member_core-Filled, decltype_core-Filled, void_core-Filled, scalar_only-Filled) depth 7
 
-  pub const_type-Alone : (c : Context) (n : ℕ) → Alone (const_type b c n)
+  pub const_type-Alone : (c : Context) (n : ℕ) → Alone requires (const_type b c n)
   unfolding const_type
   const_type-Alone c n = search (aloneness, h.core, type_behind-Alone)
 
@@ -198,7 +205,7 @@ module _ {b : Below} (h : BelowAlone b) where
   unfolding const_type
   const_type-Filled c n = search aloneness
 
-  bare_type-Alone : (c : Context) (n : ℕ) → Alone (bare_type b c n)
+  bare_type-Alone : (c : Context) (n : ℕ) → Alone requires (bare_type b c n)
   unfolding bare_type
   bare_type-Alone c n = search (aloneness, h.core, type_behind-Alone)
 
@@ -206,7 +213,7 @@ module _ {b : Below} (h : BelowAlone b) where
   unfolding bare_type
   bare_type-Filled c n = search (aloneness, h.some_core)
 
-  pub type_id-Alone : (c : Context) (n : ℕ) → Alone (type_id b c n)
+  pub type_id-Alone : (c : Context) (n : ℕ) → Alone requires (type_id b c n)
   unfolding type_id
   type_id-Alone c n = search (aloneness, const_type-Alone, bare_type-Alone, const_type-Filled, bare_type-Filled)
 

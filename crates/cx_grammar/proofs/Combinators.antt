@@ -8,7 +8,7 @@ use Rattle.cx_base.specs.declared.limit.Limit.TheVariants as limits
 use Rattle.cx_grammar.specs.Pieces.{Piece}
 use Rattle.cx_grammar.specs.Words.{misfit}
 use Rattle.cx_grammar.specs.Production.{Production, Stopped, Ended, Exhausted, At, ◌>>>◌, give, ◌>>=◌, token, when, given, closed, times, repeat, begins, read_token, read_closed, Chosen}
-use Rattle.cx_grammar.proofs.Lawful.{Reading, Wholes, Finished, Ends, Gives, Why, Misfits, Unbuilt, Passes, Refuses, Widened, Wide, Deep, Lawful, Agrees, Spent, Same, Further, Grows}
+use Rattle.cx_grammar.proofs.Lawful.{Reading, Wholes, Finished, Ends, Gives, Why, Misfits, Unread, Passes, Refuses, Widened, Wide, Deep, Lawful, Agrees, Spent, Same, Further, Grows}
 
 pub self_alone : {X : Type 0} (us r : List X) → us ++ r ≡ r → us ≡ []
 self_alone us r e = append_cancel_right us [] r e
@@ -23,7 +23,7 @@ finished_as e (Ends f) = Ends (e ∙ f)
 finished_as e (Gives x f) = Gives x (e ∙ f)
 
 -- what is lawful ends where the pieces end
-pub finished : {A : Type 0} {p : Production A} → Lawful p → (l : ℕ) → Finished (p.read l [])
+pub finished : {requires : Bool} {A : Type 0} {p : Production A} → Lawful requires p → (l : ℕ) → Finished (p.read l [])
 finished hp l = hp.begun l [] (hp.starts l)
 
 pub not_spent : {A : Type 0} {r : Reading A} → Finished r → r ≡ Err Exhausted → ⊥
@@ -40,8 +40,8 @@ not_before (Gives y f) x t rest e = let q = ok_both y x [] (t ∷ rest) (sym f �
 
 -- ---- give
 
-module _ {A : Type 0} (x : A) where
-  pub give-Lawful : Lawful (give x)
+module _ {requires : Bool} {A : Type 0} (x : A) where
+  pub give-Lawful : Lawful requires (give x)
   give-Lawful = record {
     starts = λ l. refl;
     sound = λ l ts y rest e. record { tree = []; split = (ok_both x y ts rest e).1; whole = (refl, sym (ok_both x y ts rest e).0) };
@@ -67,7 +67,7 @@ bound : {A B : Type 0} (r : Reading A) (k : A × List Piece → Reading B) (out 
 bound (Ok x) k out e = Went x.0 x.1 refl e
 bound (Err s) k out e = Failed s refl (sym e)
 
-module _ {A : Type 0} {p : Production A} (hp : Lawful p) where
+module _ {requires : Bool} {A : Type 0} {p : Production A} (hp : Lawful requires p) where
   -- the piece behind a tree, and not those behind it, says where the tree ends
   pub whole_ahead : (l : ℕ) (us : List Piece) (t : Piece) (rest rest' : List Piece) (x : A) → p.whole l us (t ∷ rest) x → p.whole l us (t ∷ rest') x
   whole_ahead l us t rest rest' x w =
@@ -97,7 +97,7 @@ module _ {A B : Type 0} (p : Production A) (f : A → Production B) where
   then_cases : (l : ℕ) (ts : List Piece) (out : Reading B) → (p >>= f).read l ts ≡ out → Bound (p.read l ts) (λ r. (f r.0).read l r.1) out
   then_cases l ts out e = bound (p.read l ts) (λ r. (f r.0).read l r.1) out e
 
-module _ {A B : Type 0} {p : Production A} {f : A → Production B} (hp : Lawful p) (hf : (x : A) → Lawful (f x)) where
+module _ {requires : Bool} {A B : Type 0} {p : Production A} {f : A → Production B} (hp : Lawful requires p) (hf : (x : A) → Lawful requires (f x)) where
   then-starts : (l : ℕ) → (p >>= f).front l []
   then-starts l = inl (hp.starts l)
 
@@ -166,18 +166,18 @@ module _ {A B : Type 0} {p : Production A} {f : A → Production B} (hp : Lawful
             ∙ (hf x).ahead l s2.tree t rest rest' y second)
       ]
 
-  then_why_first : (l : ℕ) (us : List Piece) (t : Piece) (r : Refusal) → Why p l us t r → Why (p >>= f) l us t r
+  then_why_first : (l : ℕ) (us : List Piece) (t : Piece) (r : Refusal) → Why requires p l us t r → Why requires (p >>= f) l us t r
   then_why_first l us t r (Misfits e) = Misfits e
-  then_why_first l us t r (Unbuilt d e) = Unbuilt d e
+  then_why_first l us t r (Unread w d e) = Unread w d e
   then_why_first l us t r (Passes l' h e k) = Passes l' h e (inl k)
 
-  then_why : (l : ℕ) (us vs : List Piece) (t : Piece) (rest : List Piece) (r : Refusal) (x : A) → p.read l (us ++ (vs ++ t ∷ rest)) ≡ Ok (x, vs ++ t ∷ rest) → Why (f x) l vs t r → Why (p >>= f) l (us ++ vs) t r
+  then_why : (l : ℕ) (us vs : List Piece) (t : Piece) (rest : List Piece) (r : Refusal) (x : A) → p.read l (us ++ (vs ++ t ∷ rest)) ≡ Ok (x, vs ++ t ∷ rest) → Why requires (f x) l vs t r → Why requires (p >>= f) l (us ++ vs) t r
   then_why l us vs t rest r x e (Misfits q) = Misfits q
-  then_why l us vs t rest r x e (Unbuilt d q) = Unbuilt d q
+  then_why l us vs t rest r x e (Unread w d q) = Unread w d q
   then_why l us vs t rest r x e (Passes l' h q k) =
       Passes l' h q (inr (x, us, vs ++ t ∷ [], append_assoc us vs (t ∷ []), whole_wider hp l l' us (vs ++ t ∷ []) x h (read_ahead hp l us vs t rest [] x e), k))
 
-  then-stops : (l : ℕ) (ts : List Piece) (r : Refusal) → (p >>= f).read l ts ≡ Err (At r) → Refuses (p >>= f) l ts r
+  then-stops : (l : ℕ) (ts : List Piece) (r : Refusal) → (p >>= f).read l ts ≡ Err (At r) → Refuses requires (p >>= f) l ts r
   then-stops l ts r e =
       elim (then_cases p f l ts (Err (At r)) e) [
         | Failed s e1 e2 ↦
@@ -239,7 +239,7 @@ module _ {A B : Type 0} {p : Production A} {f : A → Production B} (hp : Lawful
         ]
       ]
 
-  pub then-Lawful : Lawful (p >>= f)
+  pub then-Lawful : Lawful requires (p >>= f)
   then-Lawful = record {
     starts = then-starts;
     sound = then-sound;
@@ -263,7 +263,7 @@ pub branch_read : {A : Type 0} (c : Bool) (a b : Production A) (l : ℕ) (ts : L
 branch_read true a b l ts = refl
 branch_read false a b l ts = refl
 
-branch_in : {A : Type 0} (c : Bool) (a b : Production A) → Lawful a → Lawful b → Lawful (branch c a b)
+branch_in : {requires : Bool} {A : Type 0} (c : Bool) (a b : Production A) → Lawful requires a → Lawful requires b → Lawful requires (branch c a b)
 branch_in true a b ha hb = ha
 branch_in false a b ha hb = hb
 
@@ -290,8 +290,8 @@ unfolding begins
 begins_same p [] t rest rest' = refl
 begins_same p (u ∷ us) t rest rest' = refl
 
-module _ {A : Type 0} (p : Piece → Bool) {a b : Production A} (ha : Lawful a) (hb : Lawful b) where
-  when_at : (ts : List Piece) → Lawful (branch (begins p ts) a b)
+module _ {requires : Bool} {A : Type 0} (p : Piece → Bool) {a b : Production A} (ha : Lawful requires a) (hb : Lawful requires b) where
+  when_at : (ts : List Piece) → Lawful requires (branch (begins p ts) a b)
   when_at ts = branch_in (begins p ts) a b ha hb
 
   pub when_read : (l : ℕ) (ts : List Piece) → (when p a b).read l ts ≡ (branch (begins p ts) a b).read l ts
@@ -337,13 +337,13 @@ module _ {A : Type 0} (p : Piece → Bool) {a b : Production A} (ha : Lawful a) 
   when_front l [] t rest k = hb.starts l
   when_front l (u ∷ us) t rest k = to_front a b (p u) l (u ∷ us) k
 
-  when_why : (l : ℕ) (us : List Piece) (t : Piece) (rest : List Piece) (r : Refusal) → Why (branch (begins p (us ++ t ∷ rest)) a b) l us t r → Why (when p a b) l us t r
+  when_why : (l : ℕ) (us : List Piece) (t : Piece) (rest : List Piece) (r : Refusal) → Why requires (branch (begins p (us ++ t ∷ rest)) a b) l us t r → Why requires (when p a b) l us t r
   when_why l us t rest r (Misfits e) = Misfits e
-  when_why l us t rest r (Unbuilt d e) = Unbuilt d e
+  when_why l us t rest r (Unread w d e) = Unread w d e
   when_why l us t rest r (Passes l' h e k) =
       Passes l' h e (to_front a b (begins p (us ++ t ∷ [])) l' (us ++ t ∷ []) (subst (λ (c : Bool). (branch c a b).front l' (us ++ t ∷ [])) (begins_same p us t rest []) k))
 
-  when-stops : (l : ℕ) (ts : List Piece) (r : Refusal) → (when p a b).read l ts ≡ Err (At r) → Refuses (when p a b) l ts r
+  when-stops : (l : ℕ) (ts : List Piece) (r : Refusal) → (when p a b).read l ts ≡ Err (At r) → Refuses requires (when p a b) l ts r
   when-stops l ts r e =
       let w = (when_at ts).stops l ts r (sym (when_read l ts) ∙ e) in
       let here : begins p ts ≡ begins p (w.front ++ w.next ∷ w.behind) = ap (λ (s : List Piece). begins p s) w.split in
@@ -357,7 +357,7 @@ module _ {A : Type 0} (p : Piece → Bool) {a b : Production A} (ha : Lawful a) 
             when_read l (w.front ++ w.next ∷ rest)
             ∙ ap (λ (c : Bool). (branch c a b).read l (w.front ++ w.next ∷ rest)) (begins_same p w.front w.next rest w.behind ∙ sym here)
             ∙ w.always rest;
-        why = when_why l w.front w.next w.behind r (subst (λ (c : Bool). Why (branch c a b) l w.front w.next r) here w.why);
+        why = when_why l w.front w.next w.behind r (subst (λ (c : Bool). Why requires (branch c a b) l w.front w.next r) here w.why);
       }
 
   when-spent : (l : ℕ) (ts vs : List Piece) → (when p a b).read l ts ≡ Err Exhausted → (when p a b).read l (ts ++ vs) ≡ Err Exhausted
@@ -373,7 +373,7 @@ module _ {A : Type 0} (p : Piece → Bool) {a b : Production A} (ha : Lawful a) 
         | Deep at e ↦ Deep at (when_read l ts ∙ e)
       ]
 
-  pub when-Lawful : Lawful (when p a b)
+  pub when-Lawful : Lawful requires (when p a b)
   when-Lawful = record {
     starts = when-starts;
     sound = when-sound;
@@ -387,13 +387,13 @@ module _ {A : Type 0} (p : Piece → Bool) {a b : Production A} (ha : Lawful a) 
     widens = when-widens;
   }
 
-pub given-Lawful : {A : Type 0} (c : Bool) {a b : Production A} → Lawful a → Lawful b → Lawful (given c a b)
+pub given-Lawful : {requires : Bool} {A : Type 0} (c : Bool) {a b : Production A} → Lawful requires a → Lawful requires b → Lawful requires (given c a b)
 given-Lawful true ha hb = ha
 given-Lawful false ha hb = hb
 
 -- ---- nothing
 
-pub closed-Lawful : {A : Type 0} → Lawful (closed {A = A})
+pub closed-Lawful : {requires : Bool} {A : Type 0} → Lawful requires (closed {A = A})
 unfolding read_closed
 closed-Lawful {A} = record {
   starts = λ l. refl;
@@ -522,7 +522,7 @@ module _ (load : ℕ) (p : Piece → Bool) where
         | Other e1 e2 ↦ absurd (cc)
       ]
 
-  token-stops : (l : ℕ) (ts : List Piece) (r : Refusal) → (token load p).read l ts ≡ Err (At r) → Refuses (token load p) l ts r
+  token-stops : {requires : Bool} (l : ℕ) (ts : List Piece) (r : Refusal) → (token load p).read l ts ≡ Err (At r) → Refuses requires (token load p) l ts r
   token-stops l [] r e = let h = token_end load p l in absurd (cc)
   token-stops l (t ∷ ts) r e =
       elim (taken load p l t ts) [
@@ -569,7 +569,7 @@ module _ (load : ℕ) (p : Piece → Bool) where
         | Other e1 e2 ↦ Wide (token_other load p l' t ts e1 ∙ sym e2)
       ]
 
-  pub token-Lawful : Lawful (token load p)
+  pub token-Lawful : {requires : Bool} → Lawful requires (token load p)
   token-Lawful = record {
     starts = λ l. inl refl;
     sound = token-sound;
@@ -602,12 +602,12 @@ token-Takes load p = record { takes = takes }
         ]
 
 -- a production takes pieces away, and adds none
-lawful_length : {A : Type 0} {p : Production A} → Lawful p → (l : ℕ) (ts : List Piece) (x : A) (rest : List Piece) → p.read l ts ≡ Ok (x, rest) → length rest ≤ length ts
+lawful_length : {requires : Bool} {A : Type 0} {p : Production A} → Lawful requires p → (l : ℕ) (ts : List Piece) (x : A) (rest : List Piece) → p.read l ts ≡ Ok (x, rest) → length rest ≤ length ts
 lawful_length hp l ts x rest e =
     let s = hp.sound l ts x rest e in
     omega (arith, ap (λ (z : List Piece). length z) s.split, length-append s.tree rest)
 
-pub then-Takes : {A B : Type 0} {p : Production A} {f : A → Production B} → Takes p → ((x : A) → Lawful (f x)) → Takes (p >>= f)
+pub then-Takes : {requires : Bool} {A B : Type 0} {p : Production A} {f : A → Production B} → Takes p → ((x : A) → Lawful requires (f x)) → Takes (p >>= f)
 then-Takes {p} {f} tp hf = record {
   takes = λ l ts y rest e. elim (then_cases p f l ts (Ok (y, rest)) e) [
     | Failed s e1 e2 ↦ absurd (cc)
@@ -617,7 +617,7 @@ then-Takes {p} {f} tp hf = record {
 
 -- ---- again and again
 
-pub times-Lawful : {A : Type 0} (n : ℕ) (p : Piece → Bool) (step : A → Production A) (x : A) → ((y : A) → Lawful (step y)) → Lawful (times n p step x)
+pub times-Lawful : {requires : Bool} {A : Type 0} (n : ℕ) (p : Piece → Bool) (step : A → Production A) (x : A) → ((y : A) → Lawful requires (step y)) → Lawful requires (times n p step x)
 times-Lawful zero p step x hs = closed-Lawful
 times-Lawful (suc n) p step x hs = when-Lawful p (then-Lawful (hs x) (λ y. times-Lawful n p step y hs)) (give-Lawful x)
 
@@ -688,7 +688,7 @@ when_agrees p a b a' b' l ts h k =
       | inr e ↦ agrees_as (when_false p a b l ts e) (when_false p a' b' l ts e) k
     ]
 
-module _ {A : Type 0} (p : Piece → Bool) {step : A → Production A} (hs : (y : A) → Lawful (step y)) (ht : (y : A) → Takes (step y)) where
+module _ {requires : Bool} {A : Type 0} (p : Piece → Bool) {step : A → Production A} (hs : (y : A) → Lawful requires (step y)) (ht : (y : A) → Takes (step y)) where
   -- more turns than there are pieces are enough
   fuel : (n m : ℕ) (x : A) (l : ℕ) (ts : List Piece) → length ts < m → Agrees ((times n p step x).read l ts) ((times m p step x).read l ts)
   unfolding begins read_closed
@@ -716,15 +716,15 @@ module _ {A : Type 0} (p : Piece → Bool) {step : A → Production A} (hs : (y 
       ]
 
   module _ (x : A) where
-    repeat_lawful : (n : ℕ) → Lawful (times n p step x)
+    repeat_lawful : (n : ℕ) → Lawful requires (times n p step x)
     repeat_lawful n = times-Lawful n p step x hs
 
     pub repeat_agrees : (n l : ℕ) (ts : List Piece) → Agrees ((times n p step x).read l ts) ((repeat p step x).read l ts)
     repeat_agrees n l ts = fuel n (suc (length ts)) x l ts (omega arith)
 
-    repeat_why : (n l : ℕ) (us : List Piece) (t : Piece) (r : Refusal) → Why (times n p step x) l us t r → Why (repeat p step x) l us t r
+    repeat_why : (n l : ℕ) (us : List Piece) (t : Piece) (r : Refusal) → Why requires (times n p step x) l us t r → Why requires (repeat p step x) l us t r
     repeat_why n l us t r (Misfits e) = Misfits e
-    repeat_why n l us t r (Unbuilt d e) = Unbuilt d e
+    repeat_why n l us t r (Unread w d e) = Unread w d e
     repeat_why n l us t r (Passes l' h e k) = Passes l' h e (n, k)
 
     repeat-sound : (l : ℕ) (ts : List Piece) (y : A) (rest : List Piece) → (repeat p step x).read l ts ≡ Ok (y, rest) → Wholes (repeat p step x) l ts y rest
@@ -732,7 +732,7 @@ module _ {A : Type 0} (p : Piece → Bool) {step : A → Production A} (hs : (y 
         let s = (repeat_lawful (suc (length ts))).sound l ts y rest e in
         record { tree = s.tree; split = s.split; whole = (suc (length ts), s.whole) }
 
-    repeat-stops : (l : ℕ) (ts : List Piece) (r : Refusal) → (repeat p step x).read l ts ≡ Err (At r) → Refuses (repeat p step x) l ts r
+    repeat-stops : (l : ℕ) (ts : List Piece) (r : Refusal) → (repeat p step x).read l ts ≡ Err (At r) → Refuses requires (repeat p step x) l ts r
     repeat-stops l ts r e =
         let n = suc (length ts) in
         let w = (repeat_lawful n).stops l ts r e in
@@ -746,7 +746,7 @@ module _ {A : Type 0} (p : Piece → Bool) {step : A → Production A} (hs : (y 
           why = repeat_why n l w.front w.next r w.why;
         }
 
-    pub repeat-Lawful : Lawful (repeat p step x)
+    pub repeat-Lawful : Lawful requires (repeat p step x)
     repeat-Lawful = record {
       starts = λ l. (zero, refl);
       sound = repeat-sound;
@@ -767,41 +767,41 @@ module _ {A : Type 0} (p : Piece → Bool) {step : A → Production A} (hs : (y 
 
 -- ---- one production at two levels
 
-pub same-Grows : {A : Type 0} {p : Production A} → Lawful p → Grows p p
+pub same-Grows : {requires : Bool} {A : Type 0} {p : Production A} → Lawful requires p → Grows requires p p
 same-Grows hp = record { low = hp; high = hp; agrees = λ l ts. Same refl }
 
-pub give-Grows : {A : Type 0} (x : A) → Grows (give x) (give x)
+pub give-Grows : {requires : Bool} {A : Type 0} (x : A) → Grows requires (give x) (give x)
 give-Grows x = same-Grows (give-Lawful x)
 
-pub token-Grows : (load : ℕ) (p : Piece → Bool) → Grows (token load p) (token load p)
+pub token-Grows : {requires : Bool} (load : ℕ) (p : Piece → Bool) → Grows requires (token load p) (token load p)
 token-Grows load p = same-Grows (token-Lawful load p)
 
-pub then-Grows : {A B : Type 0} {p q : Production A} {f g : A → Production B} → Grows p q → ((x : A) → Grows (f x) (g x)) → Grows (p >>= f) (q >>= g)
+pub then-Grows : {requires : Bool} {A B : Type 0} {p q : Production A} {f g : A → Production B} → Grows requires p q → ((x : A) → Grows requires (f x) (g x)) → Grows requires (p >>= f) (q >>= g)
 then-Grows {p} {q} {f} {g} hp hf = record {
   low = then-Lawful hp.low (λ x. (hf x).low);
   high = then-Lawful hp.high (λ x. (hf x).high);
   agrees = λ l ts. then_agrees p q f g l ts (hp.agrees l ts) (λ x r e. (hf x).agrees l r) (λ x. finished (hf x).high l);
 }
 
-pub when-Grows : {A : Type 0} (p : Piece → Bool) {a b a' b' : Production A} → Grows a a' → Grows b b' → Grows (when p a b) (when p a' b')
+pub when-Grows : {requires : Bool} {A : Type 0} (p : Piece → Bool) {a b a' b' : Production A} → Grows requires a a' → Grows requires b b' → Grows requires (when p a b) (when p a' b')
 when-Grows p {a} {b} {a'} {b'} ha hb = record {
   low = when-Lawful p ha.low hb.low;
   high = when-Lawful p ha.high hb.high;
   agrees = λ l ts. when_agrees p a b a' b' l ts (ha.agrees l ts) (hb.agrees l ts);
 }
 
-pub given-Grows : {A : Type 0} (c : Bool) {a b a' b' : Production A} → Grows a a' → Grows b b' → Grows (given c a b) (given c a' b')
+pub given-Grows : {requires : Bool} {A : Type 0} (c : Bool) {a b a' b' : Production A} → Grows requires a a' → Grows requires b b' → Grows requires (given c a b) (given c a' b')
 given-Grows true ha hb = ha
 given-Grows false ha hb = hb
 
-pub closed-Grows : {A : Type 0} {q : Production A} → Lawful q → Grows closed q
+pub closed-Grows : {requires : Bool} {A : Type 0} {q : Production A} → Lawful requires q → Grows requires closed q
 closed-Grows {A} {q} hq = record { low = closed-Lawful; high = hq; agrees = agrees }
   where
     agrees : (l : ℕ) (ts : List Piece) → Agrees ((closed {A = A}).read l ts) (q.read l ts)
     agrees l [] = further_end (read_closed_end l) (finished hq l)
     agrees l (t ∷ ts) = Spent (read_closed_spent l t ts)
 
-module _ {A : Type 0} (p : Piece → Bool) {step step' : A → Production A} (hs : (y : A) → Grows (step y) (step' y)) where
+module _ {requires : Bool} {A : Type 0} (p : Piece → Bool) {step step' : A → Production A} (hs : (y : A) → Grows requires (step y) (step' y)) where
   times_agrees : (n : ℕ) (x : A) (l : ℕ) (ts : List Piece) → Agrees ((times n p step x).read l ts) ((times n p step' x).read l ts)
   times_agrees zero x l ts = Same refl
   times_agrees (suc n) x l ts =
@@ -811,7 +811,7 @@ module _ {A : Type 0} (p : Piece → Bool) {step step' : A → Production A} (hs
       (λ y. finished (times-Lawful n p step' y (λ z. (hs z).high)) l))
       (Same refl)
 
-  pub repeat-Grows : (low : (y : A) → Takes (step y)) (high : (y : A) → Takes (step' y)) (x : A) → Grows (repeat p step x) (repeat p step' x)
+  pub repeat-Grows : (low : (y : A) → Takes (step y)) (high : (y : A) → Takes (step' y)) (x : A) → Grows requires (repeat p step x) (repeat p step' x)
   repeat-Grows low high x = record {
     low = repeat-Lawful p (λ y. (hs y).low) low x;
     high = repeat-Lawful p (λ y. (hs y).high) high x;
@@ -820,19 +820,19 @@ module _ {A : Type 0} (p : Piece → Bool) {step step' : A → Production A} (hs
 
 -- ---- a production that begins with a token, at two levels
 
-pub record Steps {A : Type 0} (p q : Production A) : Type 0 where
-  pub grows : Grows p q
+pub record Steps (requires : Bool) {A : Type 0} (p q : Production A) : Type 0 where
+  pub grows : Grows requires p q
   pub low : Takes p
   pub high : Takes q
 
-pub token-Steps : {A : Type 0} (load : ℕ) (p : Piece → Bool) {f g : Piece → Production A} → ((x : Piece) → Grows (f x) (g x)) → Steps (token load p >>= f) (token load p >>= g)
+pub token-Steps : {requires : Bool} {A : Type 0} (load : ℕ) (p : Piece → Bool) {f g : Piece → Production A} → ((x : Piece) → Grows requires (f x) (g x)) → Steps requires (token load p >>= f) (token load p >>= g)
 token-Steps load p hf = record {
   grows = then-Grows (token-Grows load p) hf;
   low = then-Takes (token-Takes load p) (λ x. (hf x).low);
   high = then-Takes (token-Takes load p) (λ x. (hf x).high);
 }
 
-pub turns-Grows : {A : Type 0} (p : Piece → Bool) {step step' : A → Production A} → ((y : A) → Steps (step y) (step' y)) → (x : A) → Grows (repeat p step x) (repeat p step' x)
+pub turns-Grows : {requires : Bool} {A : Type 0} (p : Piece → Bool) {step step' : A → Production A} → ((y : A) → Steps requires (step y) (step' y)) → (x : A) → Grows requires (repeat p step x) (repeat p step' x)
 turns-Grows p hs x = repeat-Grows p (λ y. (hs y).grows) (λ y. (hs y).low) (λ y. (hs y).high) x
 
 -- a value is read only where the load is within the limit

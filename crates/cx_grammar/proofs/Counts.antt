@@ -5,7 +5,7 @@ use Rattle.cx_base.specs.declared.place.Place.{Place}
 use Rattle.cx_tree.specs.Trees.{Mark, ExprTree, ArgumentTree, TypeArgument, ValueArgument, exprs, arguments}
 use Rattle.cx_tree.specs.Nodes.{IsNumberedFrom, expr_nodes, exprs_nodes, type_nodes, argument_nodes}
 use Rattle.cx_grammar.specs.Pieces.{Piece}
-use Rattle.cx_grammar.specs.Production.{Production, give, ◌>>=◌, token, when, given, closed, unbuilt, times, repeat, begins, Chosen}
+use Rattle.cx_grammar.specs.Production.{Production, give, ◌>>=◌, token, when, given, closed, unread, times, repeat, begins, Chosen}
 use Rattle.cx_grammar.specs.Types.{numbered}
 
 pub record Yields {A : Type 0} (p : Production A) (s : ℕ) (Q : ℕ → A → Type 0) : Type 0 where
@@ -56,8 +56,8 @@ given-Yields false ha hb = hb
 pub closed-Yields : {A : Type 0} {s : ℕ} {Q : ℕ → A → Type 0} → Yields (closed {A = A}) s Q
 closed-Yields = record { yields = λ l us rest x w. absurd w }
 
-pub unbuilt-Yields : {A : Type 0} {s : ℕ} {Q : ℕ → A → Type 0} → Yields (unbuilt {A = A}) s Q
-unbuilt-Yields = record { yields = λ l us rest x w. absurd w }
+pub unread-Yields : {A : Type 0} (p : Piece → Bool) {s : ℕ} {Q : ℕ → A → Type 0} → Yields (unread {A = A} p) s Q
+unread-Yields p = record { yields = λ l us rest x w. absurd w }
 
 module _ {A : Type 0} (p : Piece → Bool) {step : A → Production A} {I : ℕ → A → Type 0} (h : (x : A) (j : ℕ) → I j x → Yields (step x) j I) where
   times-Yields : (n : ℕ) (x : A) (s : ℕ) → I s x → Yields (times n p step x) s I

@@ -8,7 +8,7 @@ use Rattle.cx_grammar.specs.Words.{is_word_kind, is_punct_kind, is_int_kind, is_
 use Rattle.cx_grammar.specs.Types.{closes, one_word}
 use Rattle.cx_grammar.specs.Expressions.{is_prefix}
 use Rattle.cx_grammar.specs.Declarations.{is_end_kind}
-use Rattle.cx_grammar.specs.Production.{Production, give, ◌>>=◌, token, when, given, closed, unbuilt, times, repeat, begins, Chosen}
+use Rattle.cx_grammar.specs.Production.{Production, give, ◌>>=◌, token, when, given, closed, unread, times, repeat, begins, Chosen}
 use Rattle.cx_grammar.proofs.Alone.{Filled}
 
 -- whether a piece is the first half of a punctuator
@@ -126,8 +126,8 @@ token-Even load p h = record { even = λ l us rest x w. ap (λ (s : List Piece).
 pub closed-Even : {A : Type 0} → Even (closed {A = A})
 closed-Even = record { even = λ l us rest x w. absurd w }
 
-pub unbuilt-Even : {A : Type 0} → Even (unbuilt {A = A})
-unbuilt-Even = record { even = λ l us rest x w. absurd w }
+pub unread-Even : {A : Type 0} (p : Piece → Bool) → Even (unread {A = A} p)
+unread-Even p = record { even = λ l us rest x w. absurd w }
 
 module _ {A B : Type 0} {p : Production A} {f : A → Production B} where
   then_even : Even p → ((x : A) → Even (f x)) → (l : ℕ) (us vs rest : List Piece) (x : A) (y : B) → p.whole l us (vs ++ rest) x → (f x).whole l vs rest y → ends_split (us ++ vs) ≡ false

@@ -8,10 +8,12 @@ use Rattle.cx_grammar.specs.Pieces.{Piece}
 use Rattle.cx_grammar.specs.Production.{Production}
 use Rattle.cx_grammar.specs.Names.{Context, kind_name}
 use Rattle.cx_grammar.specs.Types.{Numbered, Placed, Calling, NoCall, MayCall, MustCall, Below, maybe_int, long_long, behind_long_long, behind_sign, scalar_behind, word_core, long_core, scalar_core, argument_list, more_name, qualified_names, class_core, type_name_core, head_core, member_core, decltype_core, void_core, scalar_only, core, maybe_const, maybe_reference, type_behind, const_type, bare_type, type_id}
+use Rattle.cx_grammar.specs.Requires.{requires_expr, maybe_requires}
 use Rattle.cx_grammar.specs.Expressions.{levels, literal, truth, group, static_cast, is_same, out, list, qualified, behind_head, behind_core, headed, cored, word_list, name_alone, named, with_calling, worded, simple_primary, primary, member, step, tail_behind, called, call, tail, postfix, prefixed, unary, binary_chain, binary_rest, rests, operand, conditional, assignment, expr_behind, expr, argument_of, argument_type, core_argument, head_argument, word_argument, core_type_argument, argument, uncalled, clause_primary, and_rest, conjunction, or_rest, clause}
-use Rattle.cx_grammar.proofs.Even.{Even, IsWhole, give-Even, token-Even, then-Even, last-Even, when-Even, given-Even, repeat-Even, closed-Even, word-Whole, any_name-Whole, literal_token-Whole, punct-Whole, or-Whole, and-Whole, never-Whole, one_word-Whole, is_prefix-Whole, closes-Whole, unbuilt-Even, end-Whole}
+use Rattle.cx_grammar.proofs.Even.{Even, IsWhole, give-Even, token-Even, then-Even, last-Even, when-Even, given-Even, repeat-Even, closed-Even, word-Whole, any_name-Whole, literal_token-Whole, punct-Whole, or-Whole, and-Whole, never-Whole, one_word-Whole, is_prefix-Whole, closes-Whole, unread-Even, end-Whole}
 use Rattle.cx_grammar.proofs.Alone.{Filled, token-Filled, first-Filled, second-Filled, when-Filled, given-Filled, closed-Filled}
 use Rattle.cx_grammar.proofs.AloneTypes.{BelowAlone}
+use Rattle.cx_grammar.proofs.Requires.{filling}
 use Rattle.cx_grammar.proofs.AloneExpressions.{levels-Alone, behind_core-Filled, expr-Filled, simple_primary-Filled, unary-Filled}
 
 -- the productions of a level, in no list of template arguments
@@ -39,9 +41,7 @@ pub kind_name-Whole : (wanted : NameKind) (c : Context) → IsWhole (kind_name w
 unfolding kind_name
 kind_name-Whole wanted c = search (and-Whole, any_name-Whole)
 
-pub ruleset evenness = (give-Even, token-Even, then-Even, last-Even, when-Even, given-Even, word-Whole, any_name-Whole, literal_token-Whole, punct-Whole, one_word-Whole, is_prefix-Whole, closes-Whole, or-Whole, and-Whole, never-Whole, kind_name-Whole, unbuilt-Even, end-Whole, token-Filled, first-Filled, second-Filled, when-Filled)
-
-pub ruleset filling = (token-Filled, first-Filled, second-Filled, when-Filled, given-Filled)
+pub ruleset evenness = (give-Even, token-Even, then-Even, last-Even, when-Even, given-Even, word-Whole, any_name-Whole, literal_token-Whole, punct-Whole, one_word-Whole, is_prefix-Whole, closes-Whole, or-Whole, and-Whole, never-Whole, kind_name-Whole, unread-Even, end-Whole, token-Filled, first-Filled, second-Filled, when-Filled)
 
 pub maybe_int-Even : (c : Context) (s : Scalar) → Even (maybe_int c s)
 unfolding maybe_int
@@ -75,7 +75,7 @@ pub scalar_core-Even : (c : Context) → Even (scalar_core c)
 unfolding scalar_core
 scalar_core-Even c = search (evenness, word_core-Even, long_core-Even) depth 6 fits 4000
 
-module _ {b : Below} (h : BelowAlone b) (k : BelowEven b) where
+module _ {requires : Bool} {b : Below} (h : BelowAlone requires b) (k : BelowEven b) where
   pub argument_list-Even : (c : Context) (n : ℕ) → c.angle ≡ 0 → Even (argument_list b c n)
   unfolding argument_list
   argument_list-Even c n w = search evenness depth 8 fits 4000
@@ -88,7 +88,7 @@ pub qualified_names-Even : (c : Context) → Even (qualified_names c)
 unfolding qualified_names
 qualified_names-Even c = search (evenness, repeat-Even, more_name-Even) depth 7 fits 4000
 
-module _ {b : Below} (h : BelowAlone b) (k : BelowEven b) where
+module _ {requires : Bool} {b : Below} (h : BelowAlone requires b) (k : BelowEven b) where
   pub class_core-Even : (c : Context) (n : ℕ) → c.angle ≡ 0 → Even (class_core b c n)
   unfolding class_core
   class_core-Even c n w = search (evenness, argument_list-Even) depth 7 fits 4000
@@ -97,7 +97,7 @@ pub type_name_core-Even : (c : Context) (n : ℕ) → Even (type_name_core c n)
 unfolding type_name_core
 type_name_core-Even c n = search evenness depth 6 fits 4000
 
-module _ {b : Below} (h : BelowAlone b) (k : BelowEven b) where
+module _ {requires : Bool} {b : Below} (h : BelowAlone requires b) (k : BelowEven b) where
   pub head_core-Even : (c : Context) (n : ℕ) → c.angle ≡ 0 → Even (head_core b c n)
   unfolding head_core
   head_core-Even c n w = search (evenness, class_core-Even, type_name_core-Even) depth 6 fits 4000
@@ -118,7 +118,7 @@ pub scalar_only-Even : (c : Context) (n : ℕ) → Even (scalar_only c n)
 unfolding scalar_only
 scalar_only-Even c n = search (evenness, scalar_core-Even) depth 6 fits 4000
 
-module _ {b : Below} (h : BelowAlone b) (k : BelowEven b) where
+module _ {requires : Bool} {b : Below} (h : BelowAlone requires b) (k : BelowEven b) where
   pub core-Even : (c : Context) (n : ℕ) → c.angle ≡ 0 → Even (core b c n)
   unfolding core
   core-Even c n w = search (evenness, head_core-Even, member_core-Even, decltype_core-Even, void_core-Even, scalar_only-Even) depth 9 fits 4000
@@ -136,7 +136,7 @@ pub type_behind-Even : (c : Context) (at : Place) (before : Bool) (core' : Numbe
 unfolding type_behind
 type_behind-Even c at before core' = search (evenness, maybe_const-Even, maybe_reference-Even) depth 7 fits 4000
 
-module _ {b : Below} (h : BelowAlone b) (k : BelowEven b) where
+module _ {requires : Bool} {b : Below} (h : BelowAlone requires b) (k : BelowEven b) where
   pub const_type-Even : (c : Context) (n : ℕ) → c.angle ≡ 0 → Even (const_type b c n)
   unfolding const_type
   const_type-Even c n w = search (evenness, type_behind-Even, k.core) depth 7 fits 4000
@@ -157,7 +157,7 @@ pub truth-Even : (value : Bool) (text : List ℕ) (c : Context) (n : ℕ) → Ev
 unfolding truth
 truth-Even value text c n = search evenness depth 6 fits 4000
 
-module _ {b : Below} (h : BelowAlone b) (k : BelowEven b) where
+module _ {requires : Bool} {b : Below} (h : BelowAlone requires b) (k : BelowEven b) where
   pub group-Even : (c : Context) (n : ℕ) → c.angle ≡ 0 → Even (group b c n)
   unfolding group
   group-Even c n w = search (evenness, k.expr) depth 8 fits 4000
@@ -182,7 +182,7 @@ pub qualified-Even : (c : Context) (head : Numbered TypeTree) (at : Place) → E
 unfolding qualified
 qualified-Even c head at = search (evenness, qualified_names-Even) depth 6 fits 4000
 
-module _ {b : Below} (h : BelowAlone b) (k : BelowEven b) where
+module _ {requires : Bool} {b : Below} (h : BelowAlone requires b) (k : BelowEven b) where
   pub behind_head-Even : (c : Context) (k' : Numbered (Placed CoreTree)) → c.angle ≡ 0 → Even (behind_head b c k')
   unfolding behind_head
   behind_head-Even c k' w = search (evenness, list-Even, qualified-Even) depth 6 fits 4000
@@ -207,7 +207,7 @@ pub name_alone-Even : (c : Context) (n : ℕ) → Even (name_alone c n)
 unfolding name_alone
 name_alone-Even c n = search evenness depth 6 fits 4000
 
-module _ {b : Below} (h : BelowAlone b) (k : BelowEven b) where
+module _ {requires : Bool} {b : Below} (h : BelowAlone requires b) (k : BelowEven b) where
   pub named-Even : (calling : Calling) (c : Context) (n : ℕ) → c.angle ≡ 0 → Even (named calling b c n)
   unfolding named
   named-Even calling c n w = search (evenness, argument_list-Even) depth 8 fits 4000
@@ -215,10 +215,19 @@ module _ {b : Below} (h : BelowAlone b) (k : BelowEven b) where
 pub with_calling-Even : (calling : Calling) {p : Production (Numbered ExprTree)} → Even p → Even (with_calling calling p)
 with_calling-Even calling h = search evenness
 
-module _ {b : Below} (h : BelowAlone b) (k : BelowEven b) where
+-- a requires-expression ends with a token of its own
+pub requires_expr-Even : (b : Below) (c : Context) (n : ℕ) → Even (requires_expr b c n)
+unfolding requires_expr
+requires_expr-Even b c n = search evenness depth 10 fits 4000
+
+maybe_requires-Even : (b : Below) (c : Context) (n : ℕ) → Even (maybe_requires b c n)
+unfolding maybe_requires
+maybe_requires-Even b c n = search (evenness, requires_expr-Even)
+
+module _ {requires : Bool} {b : Below} (h : BelowAlone requires b) (k : BelowEven b) where
   pub worded-Even : (c : Context) (n : ℕ) → c.angle ≡ 0 → Even (worded b c n)
   unfolding worded
-  worded-Even c n w = search (evenness, truth-Even, group-Even, is_same-Even, out-Even, with_calling-Even) depth 10 fits 4000
+  worded-Even c n w = search (evenness, truth-Even, group-Even, is_same-Even, out-Even, maybe_requires-Even, with_calling-Even) depth 10 fits 4000
 
   pub simple_primary-Even : (c : Context) (n : ℕ) → c.angle ≡ 0 → Even (simple_primary b c n)
   unfolding simple_primary
@@ -311,7 +320,7 @@ pub argument_type-Even : (c : Context) (k : Numbered (Placed CoreTree)) → Even
 unfolding argument_type
 argument_type-Even c k = search (evenness, type_behind-Even) depth 6 fits 4000
 
-module _ {b : Below} (h : BelowAlone b) (k : BelowEven b) where
+module _ {requires : Bool} {b : Below} (h : BelowAlone requires b) (k : BelowEven b) where
   pub core_argument-Even : (c : Context) (k' : Numbered (Placed CoreTree)) → c.angle ≡ 0 → Even (core_argument b c k')
   unfolding core_argument
   core_argument-Even c k' w = search (evenness, behind_core-Even, argument_of-Even, argument_type-Even) depth 7 fits 4000
@@ -338,7 +347,7 @@ uncalled-Even c (e, NoCall) = search evenness
 uncalled-Even c (e, MayCall) = search evenness
 uncalled-Even c (e, MustCall) = search evenness
 
-module _ {b : Below} (h : BelowAlone b) (k : BelowEven b) where
+module _ {requires : Bool} {b : Below} (h : BelowAlone requires b) (k : BelowEven b) where
   pub clause_primary-Even : (c : Context) (n : ℕ) → c.angle ≡ 0 → Even (clause_primary b c n)
   unfolding clause_primary
   clause_primary-Even c n w = search (evenness, qualified-Even, simple_primary-Even, uncalled-Even, k.core) depth 8 fits 4000
@@ -367,9 +376,9 @@ module _ {b : Below} (h : BelowAlone b) (k : BelowEven b) where
   unfolding clause
   clause-Even c n w = search (evenness, conjunction-Even, or_rest-Even) depth 6 fits 4000
 
-pub levels-Even : (n : ℕ) → BelowEven (levels n)
+pub levels-Even : (requires : Bool) (n : ℕ) → BelowEven (levels requires n)
 unfolding levels
-levels-Even zero = record {
+levels-Even requires zero = record {
   expr = λ c m w. closed-Even;
   unary = λ c m w. closed-Even;
   binary_rest = λ level c e w. closed-Even;
@@ -389,23 +398,23 @@ levels-Even zero = record {
   some_clause_primary = λ c m. closed-Filled;
   some_conjunction = λ c m. closed-Filled;
 }
-levels-Even (suc n) = record {
-  expr = expr-Even (levels-Alone n) (levels-Even n);
-  unary = unary-Even (levels-Alone n) (levels-Even n);
-  binary_rest = binary_rest-Even (levels-Alone n) (levels-Even n);
-  operand = operand-Even (levels-Alone n) (levels-Even n);
-  tail = tail-Even (levels-Alone n) (levels-Even n);
-  called = called-Even (levels-Alone n) (levels-Even n);
-  type = type_id-Even (levels-Alone n) (levels-Even n);
-  core = core-Even (levels-Alone n) (levels-Even n);
-  argument = argument-Even (levels-Alone n) (levels-Even n);
-  clause_primary = clause_primary-Even (levels-Alone n) (levels-Even n);
-  and_rest = and_rest-Even (levels-Alone n) (levels-Even n);
-  conjunction = conjunction-Even (levels-Alone n) (levels-Even n);
-  or_rest = or_rest-Even (levels-Alone n) (levels-Even n);
+levels-Even requires (suc n) = record {
+  expr = expr-Even (levels-Alone n) (levels-Even requires n);
+  unary = unary-Even (levels-Alone n) (levels-Even requires n);
+  binary_rest = binary_rest-Even (levels-Alone n) (levels-Even requires n);
+  operand = operand-Even (levels-Alone n) (levels-Even requires n);
+  tail = tail-Even (levels-Alone n) (levels-Even requires n);
+  called = called-Even (levels-Alone n) (levels-Even requires n);
+  type = type_id-Even (levels-Alone n) (levels-Even requires n);
+  core = core-Even (levels-Alone n) (levels-Even requires n);
+  argument = argument-Even (levels-Alone n) (levels-Even requires n);
+  clause_primary = clause_primary-Even (levels-Alone n) (levels-Even requires n);
+  and_rest = and_rest-Even (levels-Alone n) (levels-Even requires n);
+  conjunction = conjunction-Even (levels-Alone n) (levels-Even requires n);
+  or_rest = or_rest-Even (levels-Alone n) (levels-Even requires n);
   some_expr = expr-Filled (levels-Alone n);
   some_unary = unary-Filled (levels-Alone n);
-  some_operand = operand-Filled (levels-Alone n) (levels-Even n);
-  some_clause_primary = clause_primary-Filled (levels-Alone n) (levels-Even n);
-  some_conjunction = conjunction-Filled (levels-Alone n) (levels-Even n);
+  some_operand = operand-Filled (levels-Alone n) (levels-Even requires n);
+  some_clause_primary = clause_primary-Filled (levels-Alone n) (levels-Even requires n);
+  some_conjunction = conjunction-Filled (levels-Alone n) (levels-Even requires n);
 }

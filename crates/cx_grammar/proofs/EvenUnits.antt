@@ -23,7 +23,7 @@ pub record WithinEven (b : Within) : Type 0 where
   pub bare : (c : Context) (n : ℕ) → c.angle ≡ 0 → Even (b.bare c n)
   pub decl : (c : Context) (n : ℕ) → c.angle ≡ 0 → Even (b.decl c n)
 
-module _ {b : Below} (h : BelowAlone b) (k : BelowEven b) where
+module _ {requires : Bool} {b : Below} (h : BelowAlone requires b) (k : BelowEven b) where
   pub variable_behind-Even : (c : Context) (is_constexpr : Bool) (of : Numbered TypeTree) → c.angle ≡ 0 → Even (variable_behind b c is_constexpr of)
   unfolding variable_behind
   variable_behind-Even c is_constexpr of w = search evenness depth 8 fits 4000
@@ -92,7 +92,7 @@ module _ {b : Below} (h : BelowAlone b) (k : BelowEven b) where
   unfolding assertion
   assertion-Even c n w = search (evenness, k.expr) depth 14 fits 4000
 
-module _ {b : Within} (h : WithinFilled b) (k : WithinEven b) where
+module _ {requires : Bool} {b : Within} (h : WithinFilled requires b) (k : WithinEven b) where
   pub block-Even : (c : Context) (n : ℕ) → c.angle ≡ 0 → Even (block b c n)
   unfolding block
   block-Even c n w = search (evenness, repeat-Even) depth 8 fits 4000
@@ -117,7 +117,7 @@ module _ {b : Within} (h : WithinFilled b) (k : WithinEven b) where
   unfolding for_stmt
   for_stmt-Even c n w = search (evenness, substatement-Even) depth 10 fits 4000
 
-module _ {b : Below} (h : BelowAlone b) (k : BelowEven b) where
+module _ {requires : Bool} {b : Below} (h : BelowAlone requires b) (k : BelowEven b) where
   pub return_stmt-Even : (c : Context) (n : ℕ) → c.angle ≡ 0 → Even (return_stmt b c n)
   unfolding return_stmt
   return_stmt-Even c n w = search evenness depth 8 fits 4000
@@ -133,7 +133,7 @@ empty_stmt-Even c n = search evenness depth 6 fits 4000
 pub closed_stmt-Even : (c : Context) {p : Production (Numbered StmtTree)} → Even p → Even (closed_stmt c p)
 closed_stmt-Even c h = search evenness
 
-module _ {b : Within} (h : WithinFilled b) (k : WithinEven b) where
+module _ {requires : Bool} {b : Within} (h : WithinFilled requires b) (k : WithinEven b) where
   pub bare_stmt-Even : (c : Context) (n : ℕ) → c.angle ≡ 0 → Even (bare_stmt b c n)
   unfolding bare_stmt
   bare_stmt-Even c n w = search (evenness, open_stmt-Even h.base k.base, assertion-Even h.base k.base, block-Even, if_stmt-Even, while_stmt-Even, for_stmt-Even, return_stmt-Even h.base k.base, jump-Even, empty_stmt-Even, closed_stmt-Even) depth 15 fits 4000
@@ -150,7 +150,7 @@ module _ {b : Within} (h : WithinFilled b) (k : WithinEven b) where
   unfolding function_behind
   function_behind-Even is_member templated c s result name w = search (evenness, function_body-Even, function_body-Filled) depth 11 fits 4000
 
-module _ {b : Below} (h : BelowAlone b) (k : BelowEven b) where
+module _ {requires : Bool} {b : Below} (h : BelowAlone requires b) (k : BelowEven b) where
   pub constant_behind-Even : (c : Context) (s : Specifiers) (of : Numbered TypeTree) (name : Piece) → c.angle ≡ 0 → Even (constant_behind b c s of name)
   unfolding constant_behind
   constant_behind-Even c s of name w = search evenness depth 7 fits 4000
@@ -159,7 +159,7 @@ module _ {b : Below} (h : BelowAlone b) (k : BelowEven b) where
   unfolding alias
   alias-Even c n w = search (evenness, type_id-Even) depth 10 fits 4000
 
-module _ {b : Within} (h : WithinFilled b) (k : WithinEven b) where
+module _ {requires : Bool} {b : Within} (h : WithinFilled requires b) (k : WithinEven b) where
   pub variable_or_function-Even : (c : Context) (n : ℕ) → c.angle ≡ 0 → Even (variable_or_function b c n)
   unfolding variable_or_function
   variable_or_function-Even c n w = search (evenness, type_id-Even h.base k.base, type_id-Filled h.base, function_behind-Even, constant_behind-Even h.base k.base) depth 11 fits 4000
@@ -176,12 +176,12 @@ module _ {b : Within} (h : WithinFilled b) (k : WithinEven b) where
   unfolding struct
   struct-Even c n w = search (evenness, struct_behind-Even) depth 8 fits 4000
 
-module _ {b : Below} (h : BelowAlone b) (k : BelowEven b) where
+module _ {requires : Bool} {b : Below} (h : BelowAlone requires b) (k : BelowEven b) where
   pub concept-Even : (c : Context) (n : ℕ) → c.angle ≡ 0 → Even (concept b c n)
   unfolding concept
   concept-Even c n w = search (evenness, unary-Even, rests-Even) depth 11 fits 4000
 
-module _ {b : Within} (h : WithinFilled b) (k : WithinEven b) where
+module _ {requires : Bool} {b : Within} (h : WithinFilled requires b) (k : WithinEven b) where
   pub specialisation-Even : (full : Bool) (c : Context) (name : Piece) (n : ℕ) → c.angle ≡ 0 → Even (specialisation full b c name n)
   unfolding specialisation
   specialisation-Even full c name n w = search (evenness, argument_list-Even h.base k.base, struct_body-Even) depth 7 fits 4000
@@ -210,17 +210,17 @@ module _ {b : Within} (h : WithinFilled b) (k : WithinEven b) where
   unfolding unit
   unit-Even = search (evenness, repeat-Even) depth 7 fits 4000
 
-pub unit_levels-Even : (n : ℕ) → WithinEven (unit_levels n)
+pub unit_levels-Even : (requires : Bool) (n : ℕ) → WithinEven (unit_levels requires n)
 unfolding unit_levels
-unit_levels-Even zero = record {
-  base = levels-Even 0;
+unit_levels-Even requires zero = record {
+  base = levels-Even requires 0;
   stmt = λ c m w. closed-Even;
   bare = λ c m w. closed-Even;
   decl = λ c m w. closed-Even;
 }
-unit_levels-Even (suc n) = record {
-  base = levels-Even (suc n);
-  stmt = stmt-Even (levels-Filled n) (unit_levels-Even n);
-  bare = bare_stmt-Even (levels-Filled n) (unit_levels-Even n);
-  decl = decl-Even (levels-Filled n) (unit_levels-Even n);
+unit_levels-Even requires (suc n) = record {
+  base = levels-Even requires (suc n);
+  stmt = stmt-Even (levels-Filled n) (unit_levels-Even requires n);
+  bare = bare_stmt-Even (levels-Filled n) (unit_levels-Even requires n);
+  decl = decl-Even (levels-Filled n) (unit_levels-Even requires n);
 }

@@ -7,7 +7,7 @@ use Rattle.cx_grammar.specs.Names.{Context, deeper}
 use Rattle.cx_grammar.specs.Types.{Numbered, Placed, Calling, NoCall, MayCall, MustCall, Below}
 use Rattle.cx_grammar.specs.Expressions.{more_expr, some_exprs, exprs_until, literal, truth, group, static_cast, is_same, out, list, qualified, behind_head, behind_core, headed, cored, word_list, name_alone, named, with_calling, worded, simple_primary, primary, call, called, member, step, tail_behind, tail, postfix, prefixed, unary, operator, is_operator, binary_chain, binary_rest, rests, operand, conditional, assignment, expr_behind, expr, argument_of, argument_type, core_argument, head_argument, word_argument, core_type_argument, argument, uncalled, clause_primary, and_rest, conjunction, or_rest, clause, above, nothing_below, levels}
 use Rattle.cx_grammar.proofs.Combinators.{Takes, Firm, Costs, token-Costs, costly-Firm, give-Firm, then-Firm, repeat-Firm}
-use Rattle.cx_grammar.proofs.Unbuilt.{requires-Firm}
+use Rattle.cx_grammar.proofs.FirmRequires.{maybe_requires-Firm}
 use Rattle.cx_grammar.proofs.Types.{BelowGrows}
 use Rattle.cx_grammar.proofs.Expressions.{more_expr-Steps, levels-Grows}
 use Rattle.cx_grammar.proofs.FirmTypes.{BelowFirm, Reached, Enough, rooms, firmness, enough_next, argument_list-Firm, qualified_names-Firm, type_behind-Firm, scalar_behind-Firm, const_type-Firm, type_id-Firm, core-Firm}
@@ -50,7 +50,7 @@ module _ (limit : ℕ) where
   uncalled-Firm c (e, MayCall) = search firmness
   uncalled-Firm c (e, MustCall) = search firmness
 
-module _ {limit n : ℕ} {b d : Below} (g : BelowGrows b d) (f : BelowFirm limit n b d) where
+module _ {requires : Bool} {limit n : ℕ} {b d : Below} (g : BelowGrows requires b d) (f : BelowFirm limit n b d) where
   more_expr-Takes : (c : Context) (so_far : Numbered (List ExprTree)) → Takes (more_expr b c so_far)
   more_expr-Takes c so_far = (more_expr-Steps g c so_far).low
 
@@ -112,7 +112,7 @@ module _ {limit n : ℕ} {b d : Below} (g : BelowGrows b d) (f : BelowFirm limit
 
   worded-Firm : (c : Context) (m : ℕ) → Enough limit (suc n) c.load → Firm limit (worded b c m) (worded d c m)
   unfolding worded
-  worded-Firm c m k = search (firmness, requires-Firm, with_calling-Firm, truth-Firm, is_same-Firm, out-Firm, group-Firm) depth 10
+  worded-Firm c m k = search (firmness, maybe_requires-Firm, with_calling-Firm, truth-Firm, is_same-Firm, out-Firm, group-Firm) depth 10
 
   simple_primary-Firm : (c : Context) (m : ℕ) → Enough limit (suc n) c.load → Firm limit (simple_primary b c m) (simple_primary d c m)
   unfolding simple_primary
@@ -264,8 +264,8 @@ module _ (limit : ℕ) where
   no_reach : (load : ℕ) → Reached limit 0 load → ⊥
   no_reach load k = omega (arith, k.more)
 
-  nothing-Firm : BelowFirm limit 0 nothing_below (above nothing_below)
-  nothing-Firm = record {
+  nothing-Firm : (requires : Bool) → BelowFirm limit 0 (nothing_below requires) (above (nothing_below requires))
+  nothing-Firm requires = record {
     expr = λ c m k. absurd (no_room c.load k);
     unary = λ c m k. absurd (no_room c.load k);
     binary_rest = λ level c e k. absurd (no_room c.load k);
@@ -281,7 +281,7 @@ module _ (limit : ℕ) where
     or_rest = λ c e k. absurd (no_room c.load k);
   }
 
-  pub levels-Firm : (n : ℕ) → BelowFirm limit n (levels n) (levels (suc n))
+  pub levels-Firm : (requires : Bool) (n : ℕ) → BelowFirm limit n (levels requires n) (levels requires (suc n))
   unfolding levels
-  levels-Firm zero = nothing-Firm
-  levels-Firm (suc n) = above-Firm (levels-Grows n) (levels-Firm n)
+  levels-Firm requires zero = nothing-Firm requires
+  levels-Firm requires (suc n) = above-Firm (levels-Grows n) (levels-Firm requires n)

@@ -95,7 +95,7 @@ module _ (limit : ℕ) where
   scalar_core-Firm c = search (firmness, word_core-Firm, long_core-Firm)
 
   more_name-Takes : (c : Context) (so_far : List (List ℕ)) → Takes (more_name c so_far)
-  more_name-Takes c so_far = (more_name-Steps c so_far).low
+  more_name-Takes c so_far = (more_name-Steps {requires = false} c so_far).low
 
   more_name-Firm : (c : Context) (so_far : List (List ℕ)) → Firm limit (more_name c so_far) (more_name c so_far)
   unfolding more_name
@@ -105,7 +105,7 @@ module _ (limit : ℕ) where
   unfolding qualified_names
   qualified_names-Firm c = search (firmness, repeat-Firm, more_name-Takes, more_name-Firm)
 
-  type_name_core-Firm : (c : Context) (n : ℕ) → Firm limit (type_name_core c n) (type_name_core c n)
+  pub type_name_core-Firm : (c : Context) (n : ℕ) → Firm limit (type_name_core c n) (type_name_core c n)
   unfolding type_name_core
   type_name_core-Firm c n = search firmness
 
@@ -130,7 +130,7 @@ module _ (limit : ℕ) where
   unfolding type_behind
   type_behind-Firm c at before k = search (firmness, maybe_const-Firm, maybe_reference-Firm)
 
-module _ {limit n : ℕ} {b d : Below} (g : BelowGrows b d) (f : BelowFirm limit n b d) where
+module _ {requires : Bool} {limit n : ℕ} {b d : Below} (g : BelowGrows requires b d) (f : BelowFirm limit n b d) where
   more_argument-Takes : (c : Context) (so_far : Numbered (List ArgumentTree)) → Takes (more_argument b c so_far)
   more_argument-Takes c so_far = (more_argument-Steps g c so_far).low
 
@@ -146,7 +146,7 @@ module _ {limit n : ℕ} {b d : Below} (g : BelowGrows b d) (f : BelowFirm limit
   unfolding argument_list
   argument_list-Firm c m k = search (firmness, some_arguments-Firm, rooms)
 
-  class_core-Firm : (c : Context) (m : ℕ) → Reached limit (suc n) c.load → Firm limit (class_core b c m) (class_core d c m)
+  pub class_core-Firm : (c : Context) (m : ℕ) → Reached limit (suc n) c.load → Firm limit (class_core b c m) (class_core d c m)
   unfolding class_core
   class_core-Firm c m k = search (firmness, argument_list-Firm)
 

@@ -1,5 +1,5 @@
 -- The laws of the grammar, of a family of productions that is lawful at each level.
-use Rattle.std.proofs.Common.{inl, inr, ◌≡◌, ℕ, zero, suc, ◌+◌, ◌≤◌, List, [], ◌∷◌, ◌++◌, length, Ok, Err, refl, sym, ap, ◌∙◌, subst, append-nil, append_assoc, arith}
+use Rattle.std.proofs.Common.{Bool, inl, inr, ◌≡◌, ℕ, zero, suc, ◌+◌, ◌≤◌, List, [], ◌∷◌, ◌++◌, length, Ok, Err, refl, sym, ap, ◌∙◌, subst, append-nil, append_assoc, arith}
 use Rattle.std.proofs.lemmas.List.{append_cancel_right}
 use Rattle.cx_base.specs.Refusal.{Refusal, Passed, Refused}
 use Rattle.cx_base.specs.declared.fault.Fault.{Fault as FaultRecord}
@@ -21,7 +21,7 @@ use Rattle.cx_grammar.proofs.EvenExpressions.{levels-Even, expr-Even, type_id-Ev
 use Rattle.cx_grammar.proofs.EvenUnits.{unit_levels-Even, stmt-Even, decl-Even, unit-Even}
 use Rattle.cx_grammar.proofs.WholeTokens.{even_tokens}
 use Rattle.cx_grammar.specs.Laws.{WholeTokens, Levelled, BeginsWithin, IsTree, Begins, Farthest, IsFaultAt, Answers, Tree, Fault, TooDeep, Short, GrammarLaws}
-use Rattle.cx_grammar.proofs.Lawful.{Reading, Lawful, Finished, Ends, Gives, Why, Misfits, Unbuilt, Passes, Refuses, Widened, Wide, Deep, Agrees, Spent, Same, Further, Grows}
+use Rattle.cx_grammar.proofs.Lawful.{Reading, Lawful, Finished, Ends, Gives, Why, Misfits, Unread, Passes, Refuses, Widened, Wide, Deep, Agrees, Spent, Same, Further, Grows}
 use Rattle.cx_grammar.proofs.Combinators.{Firm, ok_both, same-Grows, whole_wider, ok_further, at_further, finished_further, not_at, not_before, not_spent}
 use Rattle.cx_grammar.proofs.Alone.{Alone, Stays, On}
 use Rattle.cx_grammar.proofs.Types.{type_id-Grows}
@@ -33,16 +33,16 @@ use Rattle.cx_grammar.proofs.AloneExpressions.{levels-Alone, expr-Alone, clause-
 
 -- ---- trees and beginnings at greater levels, and under greater limits
 
-front_at_end : {A : Type 0} {p : Production A} → Lawful p → (l : ℕ) (us : List Piece) → Finished (p.read l us) → p.front l us
+front_at_end : {requires : Bool} {A : Type 0} {p : Production A} → Lawful requires p → (l : ℕ) (us : List Piece) → Finished (p.read l us) → p.front l us
 front_at_end hp l us (Ends e) = hp.ended l us e
 front_at_end {p} hp l us (Gives x e) =
     let s = hp.sound l us x [] e in
     subst (λ (z : List Piece). p.front l z) (sym (s.split ∙ append-nil s.tree)) (hp.whole_front l s.tree [] x s.whole)
 
-front_up : {A : Type 0} {p q : Production A} → Grows p q → (l : ℕ) (us : List Piece) → p.front l us → q.front l us
+front_up : {requires : Bool} {A : Type 0} {p q : Production A} → Grows requires p q → (l : ℕ) (us : List Piece) → p.front l us → q.front l us
 front_up g l us k = front_at_end g.high l us (finished_further (g.agrees l us) (g.low.begun l us k))
 
-whole_up : {A : Type 0} {p q : Production A} → Grows p q → (l : ℕ) (us rest : List Piece) (x : A) → p.whole l us rest x → q.whole l us rest x
+whole_up : {requires : Bool} {A : Type 0} {p q : Production A} → Grows requires p q → (l : ℕ) (us rest : List Piece) (x : A) → p.whole l us rest x → q.whole l us rest x
 whole_up {q} g l us rest x w =
     let s = g.high.sound l (us ++ rest) x rest (ok_further (g.agrees l (us ++ rest)) x rest (g.low.complete l us rest x w)) in
     subst (λ (u : List Piece). q.whole l u rest x) (append_cancel_right s.tree us rest (sym s.split)) s.whole
@@ -53,15 +53,15 @@ finished_over (Wide e) (Gives x f) = Gives x (e ∙ f)
 finished_over (Deep at e) (Ends f) = absurd (cc)
 finished_over (Deep at e) (Gives x f) = absurd (cc)
 
-front_over : {A : Type 0} {p : Production A} → Lawful p → (l l' : ℕ) (us : List Piece) → l ≤ l' → p.front l us → p.front l' us
+front_over : {requires : Bool} {A : Type 0} {p : Production A} → Lawful requires p → (l l' : ℕ) (us : List Piece) → l ≤ l' → p.front l us → p.front l' us
 front_over hp l l' us h k = front_at_end hp l' us (finished_over (hp.widens l l' us h) (hp.begun l us k))
 
-whole_over : {A : Type 0} {p : Production A} → Lawful p → (l l' : ℕ) (us rest : List Piece) (x : A) → l ≤ l' → p.whole l us rest x → p.whole l' us rest x
+whole_over : {requires : Bool} {A : Type 0} {p : Production A} → Lawful requires p → (l l' : ℕ) (us rest : List Piece) (x : A) → l ≤ l' → p.whole l us rest x → p.whole l' us rest x
 whole_over hp l l' us rest x h w = whole_wider hp l l' us rest x h (hp.complete l us rest x w)
 
 -- ---- the first pieces of a beginning
 
-pub front_first : {A : Type 0} (p : Production A) → Lawful p → (l : ℕ) (us vs : List Piece) → p.front l (us ++ vs) → p.front l us
+pub front_first : {requires : Bool} {A : Type 0} (p : Production A) → Lawful requires p → (l : ℕ) (us vs : List Piece) → p.front l (us ++ vs) → p.front l us
 front_first {A} p hp l us vs k = go (p.read l us) refl
   where
     end : Finished (p.read l (us ++ vs))
@@ -150,18 +150,18 @@ joined : (k m : ℕ) → raised k m ≡ raised m k
 joined k m = omega (arith, raised-add k m, raised-add m k)
 
 -- a production at each number of levels
-pub record Lasting {A : Type 0} (load : ℕ) (p : Levelled A) : Type 0 where
-  pub grows : (m : ℕ) → Grows (p m) (p (suc m))
-  pub alone : (m : ℕ) → Alone (p m)
+pub record Lasting (requires : Bool) {A : Type 0} (load : ℕ) (p : Levelled A) : Type 0 where
+  pub grows : (m : ℕ) → Grows requires (p m) (p (suc m))
+  pub alone : (m : ℕ) → Alone requires (p m)
   pub firm : (limit m : ℕ) → limit + 2 ≤ m + load → 2 ≤ m → Firm limit (p m) (p (suc m))
 
-module _ {A : Type 0} (load : ℕ) (Q : Levelled A) (lasting : Lasting load Q) where
+module _ {requires : Bool} {A : Type 0} (load : ℕ) (Q : Levelled A) (lasting : Lasting requires load Q) where
   open lasting use {alone, firm}
 
-  lawful : (m : ℕ) → Lawful (Q m)
+  lawful : (m : ℕ) → Lawful requires (Q m)
   lawful m = (lasting.grows m).low
 
-  climb : (k m : ℕ) → Grows (Q m) (Q (raised k m))
+  climb : (k m : ℕ) → Grows requires (Q m) (Q (raised k m))
   climb zero m = same-Grows (lawful m)
   climb (suc k) m = record {
     low = lawful m;
@@ -223,7 +223,7 @@ module _ {A : Type 0} (load : ℕ) (Q : Levelled A) (lasting : Lasting load Q) w
 
   -- ---- what a reader answers
 
-  answer_tree : (m l : ℕ) (ts : List Piece) (x : A) (rest : List Piece) → (Q m).read l ts ≡ Ok (x, rest) → Answers l Q ts ((Q m).read l ts)
+  answer_tree : (m l : ℕ) (ts : List Piece) (x : A) (rest : List Piece) → (Q m).read l ts ≡ Ok (x, rest) → Answers requires l Q ts ((Q m).read l ts)
   answer_tree m l ts x rest e =
       let s = (lawful m).sound l ts x rest e in
       let read = (lawful m).complete l s.tree rest x s.whole in
@@ -257,13 +257,13 @@ module _ {A : Type 0} (load : ℕ) (Q : Levelled A) (lasting : Lasting load Q) w
       let f = subst (λ (z : ℕ). (Q z).front l us) (joined m m') (front_up (climb m m') l us k.front) in
       not_at ((lawful (raised m' m)).begun l us f) r (at_further ((climb m' m).agrees l us) r e)
 
-  answer_at : (m l : ℕ) (ts : List Piece) (r : Refusal) → (Q m).read l ts ≡ Err (At r) → Answers l Q ts ((Q m).read l ts)
+  answer_at : (m l : ℕ) (ts : List Piece) (r : Refusal) → (Q m).read l ts ≡ Err (At r) → Answers requires l Q ts ((Q m).read l ts)
   answer_at m l ts r e = go ((lawful m).stops l ts r e).why
     where
-      w : Refuses (Q m) l ts r
+      w : Refuses requires (Q m) l ts r
       w = (lawful m).stops l ts r e
 
-      unfit : (q : FaultRecord) → r ≡ Refused q → IsFaultAt w.next r → Answers l Q ts ((Q m).read l ts)
+      unfit : (q : FaultRecord) → r ≡ Refused q → IsFaultAt requires w.next r → Answers requires l Q ts ((Q m).read l ts)
       unfit q same is =
           let always : (rest : List Piece) → (Q m).read l (w.front ++ w.next ∷ rest) ≡ Err (At (Refused q)) = λ rest. w.always rest ∙ ap (λ (z : Refusal). Err (At z)) same in
           Fault w.front w.next w.behind r e is
@@ -274,9 +274,9 @@ module _ {A : Type 0} (load : ℕ) (Q : Levelled A) (lasting : Lasting load Q) w
           (record { level = m; front = w.begun })
           (no_tree m l w.front w.next w.behind q (always w.behind) (Unfit q (always [])))
 
-      go : Why (Q m) l w.front w.next r → Answers l Q ts ((Q m).read l ts)
+      go : Why requires (Q m) l w.front w.next r → Answers requires l Q ts ((Q m).read l ts)
       go (Misfits q) = let f = misfit_refused w.next.token in unfit f.0 (q ∙ f.1) (inl q)
-      go (Unbuilt d q) = unfit _ q (inr (d, q))
+      go (Unread n d q) = unfit _ q (inr (n, d, q))
       go (Passes l' h q k) =
           TooDeep w.front w.next w.behind (e ∙ ap (λ (z : Refusal). Err (At z)) q) w.split (record { level = m; front = w.begun })
           (l', record { level = m; front = k })
@@ -293,16 +293,16 @@ module _ {A : Type 0} (load : ℕ) (Q : Levelled A) (lasting : Lasting load Q) w
         | Deep at f ↦ let g : ◌≡◌ {A = Reading A} (Err Ended) (Err (At (Passed limits.Depth at))) = sym d ∙ f in cc
       ]
 
-  reading : (l m : ℕ) (ts : List Piece) → l + 2 ≤ m + load → 2 ≤ m → Answers l Q ts ((Q m).read l ts)
+  reading : (l m : ℕ) (ts : List Piece) → l + 2 ≤ m + load → 2 ≤ m → Answers requires l Q ts ((Q m).read l ts)
   reading l m ts h o = go ((Q m).read l ts) refl
     where
-      go : (r : Reading A) → (Q m).read l ts ≡ r → Answers l Q ts ((Q m).read l ts)
+      go : (r : Reading A) → (Q m).read l ts ≡ r → Answers requires l Q ts ((Q m).read l ts)
       go (Ok x) e = answer_tree m l ts x.0 x.1 e
       go (Err Ended) e = Short e (record { level = m; front = (lawful m).ended l ts e }) (short_tree m l ts h o e)
       go (Err Exhausted) e = absurd ((firm l m h o).firm ts e)
       go (Err (At r)) e = answer_at m l ts r e
 
-  pub lasting_laws : GrammarLaws load Q
+  pub lasting_laws : GrammarLaws requires load Q
   lasting_laws = record {
     one_tree = one_tree;
     none_begin = (0, record { level = 0; front = (lawful 0).starts 0 });
@@ -311,75 +311,75 @@ module _ {A : Type 0} (load : ℕ) (Q : Levelled A) (lasting : Lasting load Q) w
     answers = λ limit level ts h o. reading limit level ts h o;
   }
 
-module _ (c : Context) (n : ℕ) where
+module _ (requires : Bool) (c : Context) (n : ℕ) where
   room : (limit m : ℕ) → limit + 2 ≤ m + c.load → 2 ≤ m → Enough limit (suc m) c.load
   room limit m h o = record { left = omega arith; more = omega arith }
 
-  pub expr_laws : GrammarLaws c.load (λ level. expr (levels level) c n)
-  expr_laws = lasting_laws c.load (λ level. expr (levels level) c n) (record {
+  pub expr_laws : GrammarLaws requires c.load (λ level. expr (levels requires level) c n)
+  expr_laws = lasting_laws c.load (λ level. expr (levels requires level) c n) (record {
     grows = λ m. expr-Grows (levels-Grows m) c n;
     alone = λ m. expr-Alone (levels-Alone m) c n;
-    firm = λ limit m h o. expr-Firm (levels-Grows m) (levels-Firm limit m) c n (room limit m h o);
+    firm = λ limit m h o. expr-Firm (levels-Grows m) (levels-Firm limit requires m) c n (room limit m h o);
   })
 
-  pub type_laws : GrammarLaws c.load (λ level. type_id (levels level) c n)
-  type_laws = lasting_laws c.load (λ level. type_id (levels level) c n) (record {
+  pub type_laws : GrammarLaws requires c.load (λ level. type_id (levels requires level) c n)
+  type_laws = lasting_laws c.load (λ level. type_id (levels requires level) c n) (record {
     grows = λ m. type_id-Grows (levels-Grows m) c n;
     alone = λ m. type_id-Alone (levels-Alone m) c n;
-    firm = λ limit m h o. type_id-Firm (levels-Grows m) (levels-Firm limit m) c n (room limit m h o);
+    firm = λ limit m h o. type_id-Firm (levels-Grows m) (levels-Firm limit requires m) c n (room limit m h o);
   })
 
-  pub clause_laws : GrammarLaws c.load (λ level. clause (levels level) c n)
-  clause_laws = lasting_laws c.load (λ level. clause (levels level) c n) (record {
+  pub clause_laws : GrammarLaws requires c.load (λ level. clause (levels requires level) c n)
+  clause_laws = lasting_laws c.load (λ level. clause (levels requires level) c n) (record {
     grows = λ m. clause-Grows (levels-Grows m) c n;
     alone = λ m. clause-Alone (levels-Alone m) c n;
-    firm = λ limit m h o. clause-Firm (levels-Grows m) (levels-Firm limit m) c n (room limit m h o);
+    firm = λ limit m h o. clause-Firm (levels-Grows m) (levels-Firm limit requires m) c n (room limit m h o);
   })
 
   more_room : (limit m : ℕ) → limit + 2 ≤ m + c.load → 2 ≤ m → More limit (suc m) c.load
   more_room limit m h o = record { left = omega arith; more = omega arith }
 
-  pub stmt_laws : GrammarLaws c.load (λ level. stmt (unit_levels level) c n)
-  stmt_laws = lasting_laws c.load (λ level. stmt (unit_levels level) c n) (record {
+  pub stmt_laws : GrammarLaws requires c.load (λ level. stmt (unit_levels requires level) c n)
+  stmt_laws = lasting_laws c.load (λ level. stmt (unit_levels requires level) c n) (record {
     grows = λ m. stmt-Grows (unit_levels-Grows m) (levels-Filled m) (levels-Filled (suc m)) c n;
     alone = λ m. stmt-Alone (unit_levels-Grows m) (levels-Filled m) (levels-Filled (suc m)) (unit_levels-Alone m) c n;
-    firm = λ limit m h o. stmt-Firm (unit_levels-Grows m) (levels-Filled m) (levels-Filled (suc m)) (unit_levels-Firm limit m) c n (more_room limit m h o);
+    firm = λ limit m h o. stmt-Firm (unit_levels-Grows m) (levels-Filled m) (levels-Filled (suc m)) (unit_levels-Firm limit requires m) c n (more_room limit m h o);
   })
 
-  pub decl_laws : GrammarLaws c.load (λ level. decl (unit_levels level) c n)
-  decl_laws = lasting_laws c.load (λ level. decl (unit_levels level) c n) (record {
+  pub decl_laws : GrammarLaws requires c.load (λ level. decl (unit_levels requires level) c n)
+  decl_laws = lasting_laws c.load (λ level. decl (unit_levels requires level) c n) (record {
     grows = λ m. decl-Grows (unit_levels-Grows m) (levels-Filled m) (levels-Filled (suc m)) c n;
     alone = λ m. decl-Alone (unit_levels-Grows m) (levels-Filled m) (levels-Filled (suc m)) (unit_levels-Alone m) c n;
-    firm = λ limit m h o. decl-Firm (unit_levels-Grows m) (levels-Filled m) (levels-Filled (suc m)) (unit_levels-Firm limit m) c n (room limit m h o);
+    firm = λ limit m h o. decl-Firm (unit_levels-Grows m) (levels-Filled m) (levels-Filled (suc m)) (unit_levels-Firm limit requires m) c n (room limit m h o);
   })
 
 unit_room : (limit m : ℕ) → limit + 2 ≤ m + 0 → 2 ≤ m → Enough limit m 1
 unit_room limit m h o = record { left = omega arith; more = omega arith }
 
-pub unit_laws : GrammarLaws 0 (λ level. unit (unit_levels level))
-unit_laws = lasting_laws 0 (λ level. unit (unit_levels level)) (record {
+pub unit_laws : (requires : Bool) → GrammarLaws requires 0 (λ level. unit (unit_levels requires level))
+unit_laws requires = lasting_laws 0 (λ level. unit (unit_levels requires level)) (record {
   grows = λ m. unit-Grows (unit_levels-Grows m) (levels-Filled m) (levels-Filled (suc m));
   alone = λ m. unit-Alone (unit_levels-Grows m) (levels-Filled m) (levels-Filled (suc m)) (unit_levels-Alone m);
-  firm = λ limit m h o. unit-Firm (unit_levels-Grows m) (levels-Filled m) (levels-Filled (suc m)) (unit_levels-Firm limit m) (unit_room limit m h o);
+  firm = λ limit m h o. unit-Firm (unit_levels-Grows m) (levels-Filled m) (levels-Filled (suc m)) (unit_levels-Firm limit requires m) (unit_room limit m h o);
 })
 
 -- ---- whole tokens
 
-module _ (c : Context) (n : ℕ) (w : c.angle ≡ 0) where
-  pub expr_tokens : WholeTokens (λ level. expr (levels level) c n)
-  expr_tokens = even_tokens (λ level. expr (levels level) c n) (λ m. expr-Even (levels-Alone m) (levels-Even m) c n w)
+module _ (requires : Bool) (c : Context) (n : ℕ) (w : c.angle ≡ 0) where
+  pub expr_tokens : WholeTokens (λ level. expr (levels requires level) c n)
+  expr_tokens = even_tokens (λ level. expr (levels requires level) c n) (λ m. expr-Even (levels-Alone m) (levels-Even requires m) c n w)
 
-  pub type_tokens : WholeTokens (λ level. type_id (levels level) c n)
-  type_tokens = even_tokens (λ level. type_id (levels level) c n) (λ m. type_id-Even (levels-Alone m) (levels-Even m) c n w)
+  pub type_tokens : WholeTokens (λ level. type_id (levels requires level) c n)
+  type_tokens = even_tokens (λ level. type_id (levels requires level) c n) (λ m. type_id-Even (levels-Alone m) (levels-Even requires m) c n w)
 
-  pub clause_tokens : WholeTokens (λ level. clause (levels level) c n)
-  clause_tokens = even_tokens (λ level. clause (levels level) c n) (λ m. clause-Even (levels-Alone m) (levels-Even m) c n w)
+  pub clause_tokens : WholeTokens (λ level. clause (levels requires level) c n)
+  clause_tokens = even_tokens (λ level. clause (levels requires level) c n) (λ m. clause-Even (levels-Alone m) (levels-Even requires m) c n w)
 
-  pub stmt_tokens : WholeTokens (λ level. stmt (unit_levels level) c n)
-  stmt_tokens = even_tokens (λ level. stmt (unit_levels level) c n) (λ m. stmt-Even (levels-Filled m) (unit_levels-Even m) c n w)
+  pub stmt_tokens : WholeTokens (λ level. stmt (unit_levels requires level) c n)
+  stmt_tokens = even_tokens (λ level. stmt (unit_levels requires level) c n) (λ m. stmt-Even (levels-Filled m) (unit_levels-Even requires m) c n w)
 
-  pub decl_tokens : WholeTokens (λ level. decl (unit_levels level) c n)
-  decl_tokens = even_tokens (λ level. decl (unit_levels level) c n) (λ m. decl-Even (levels-Filled m) (unit_levels-Even m) c n w)
+  pub decl_tokens : WholeTokens (λ level. decl (unit_levels requires level) c n)
+  decl_tokens = even_tokens (λ level. decl (unit_levels requires level) c n) (λ m. decl-Even (levels-Filled m) (unit_levels-Even requires m) c n w)
 
-pub unit_tokens : WholeTokens (λ level. unit (unit_levels level))
-unit_tokens = even_tokens (λ level. unit (unit_levels level)) (λ m. unit-Even (levels-Filled m) (unit_levels-Even m))
+pub unit_tokens : (requires : Bool) → WholeTokens (λ level. unit (unit_levels requires level))
+unit_tokens requires = even_tokens (λ level. unit (unit_levels requires level)) (λ m. unit-Even (levels-Filled m) (unit_levels-Even requires m))

@@ -1,12 +1,15 @@
 pub mod Lawful
 pub mod Combinators
+pub mod Alone
+pub mod Unread
 pub mod Types
+pub mod Requires
 pub mod Expressions
 pub mod FirmTypes
+pub mod FirmRequires
 pub mod FirmExpressions
-pub mod Alone
-pub mod Unbuilt
 pub mod AloneTypes
+pub mod AloneRequires
 pub mod AloneExpressions
 pub mod UnitFilled
 pub mod UnitGrows
@@ -19,6 +22,8 @@ pub mod WholeTokens
 pub mod GrammarLaws
 pub mod Counts
 pub mod NumbersTypes
+pub mod Spared
+pub mod NumbersRequires
 pub mod NumbersExpressions
 pub mod NumberLaws
 pub mod Printed

@@ -35,12 +35,12 @@ module _ {A : Type 0} (nodes : A → List Mark) (n : ℕ) (p : Levelled (A × �
     for_tokens = λ ts x m t. let g = counted (pieces ts) x m t in omega (arith, g.next, g.few, length-pieces ts);
   }
 
-module _ (c : Context) (n : ℕ) where
-  pub expr_numbers : NumberLaws expr_nodes n (λ level. expr (levels level) c n)
-  expr_numbers = number_laws expr_nodes n (λ level. expr (levels level) c n) (λ level. expr-Yields (levels-Counts level) c n 0)
+module _ (requires : Bool) (c : Context) (n : ℕ) where
+  pub expr_numbers : NumberLaws expr_nodes n (λ level. expr (levels requires level) c n)
+  expr_numbers = number_laws expr_nodes n (λ level. expr (levels requires level) c n) (λ level. expr-Yields (levels-Counts requires level) c n 0)
 
-  pub type_numbers : NumberLaws type_nodes n (λ level. type_id (levels level) c n)
-  type_numbers = number_laws type_nodes n (λ level. type_id (levels level) c n) (λ level. type_id-Yields (levels-Counts level) c n 0)
+  pub type_numbers : NumberLaws type_nodes n (λ level. type_id (levels requires level) c n)
+  type_numbers = number_laws type_nodes n (λ level. type_id (levels requires level) c n) (λ level. type_id-Yields (levels-Counts requires level) c n 0)
 
-  pub clause_numbers : NumberLaws expr_nodes n (λ level. clause (levels level) c n)
-  clause_numbers = number_laws expr_nodes n (λ level. clause (levels level) c n) (λ level. clause-Yields (levels-Counts level) c n 0)
+  pub clause_numbers : NumberLaws expr_nodes n (λ level. clause (levels requires level) c n)
+  clause_numbers = number_laws expr_nodes n (λ level. clause (levels requires level) c n) (λ level. clause-Yields (levels-Counts requires level) c n 0)

@@ -7,7 +7,8 @@ use Rattle.cx_grammar.specs.Production.{Production}
 use Rattle.cx_grammar.specs.Names.{Context, deeper, inside, listed}
 use Rattle.cx_grammar.specs.Types.{Numbered, Placed, Calling, NoCall, MayCall, MustCall, Below, numbered, as_type, placed_scalar, scalar_of_word, scalar_behind, qualified_names}
 use Rattle.cx_grammar.specs.Expressions.{levels, place_of, more_expr, some_exprs, exprs_until, literal, truth, group, static_cast, is_same, out, list, qualified, behind_head, behind_core, headed, cored, word_list, name_alone, named, with_calling, worded, simple_primary, primary, member, step, tail_behind, called, call, tail, postfix, prefixed, unary, operator, binary_chain, binary_rest, rests, operand, conditional, assignment, expr_behind, expr, argument_of, argument_type, core_argument, head_argument, word_argument, core_type_argument, argument, uncalled, clause_primary, and_rest, conjunction, or_rest, clause}
-use Rattle.cx_grammar.proofs.Counts.{Yields, give-Yields, then-Yields, take, past, rest_of, when-Yields, given-Yields, closed-Yields, unbuilt-Yields, repeat-Yields, Counted, seq, none, leaf, node, node_ahead, later, sooner, as_list, exprs_more}
+use Rattle.cx_grammar.proofs.Counts.{Yields, give-Yields, then-Yields, take, past, rest_of, when-Yields, given-Yields, closed-Yields, repeat-Yields, Counted, seq, none, leaf, node, node_ahead, later, sooner, as_list, exprs_more}
+use Rattle.cx_grammar.proofs.NumbersRequires.{maybe_requires-Yields}
 use Rattle.cx_grammar.proofs.NumbersTypes.{OfExpr, OfExprs, OfType, OfArgument, OfCore', BelowCounts, type_behind-Yields, argument_list-Yields, core-Yields, const_type-Yields, type_id-Yields}
 
 -- a primary, whose calls are no part of the tree
@@ -100,7 +101,7 @@ module _ {b : Below} (k : BelowCounts b) where
   worded-Yields : (c : Context) (n s : ℕ) → Yields (worded b c n) s (OfCallee n s)
   unfolding worded
   worded-Yields c n s = when-Yields _ (with_calling-Yields NoCall (truth-Yields true (codes "true") c n s)) (when-Yields _ (with_calling-Yields NoCall (truth-Yields false (codes "false") c n s))
-      (when-Yields _ (with_calling-Yields NoCall (is_same-Yields c n s)) (when-Yields _ (with_calling-Yields NoCall (out-Yields c n s)) (when-Yields _ unbuilt-Yields (with_calling-Yields NoCall (group-Yields c n s))))))
+      (when-Yields _ (with_calling-Yields NoCall (is_same-Yields c n s)) (when-Yields _ (with_calling-Yields NoCall (out-Yields c n s)) (when-Yields _ (with_calling-Yields NoCall (maybe_requires-Yields k c n s)) (with_calling-Yields NoCall (group-Yields c n s))))))
 
   simple_primary-Yields : (c : Context) (n s : ℕ) → Yields (simple_primary b c n) s (OfCallee n s)
   unfolding simple_primary
@@ -257,9 +258,9 @@ module _ {b : Below} (k : BelowCounts b) where
   unfolding clause
   clause-Yields c n s = then-Yields (conjunction-Yields c n s) (λ e i g. or_rest-Yields c e g)
 
-pub levels-Counts : (n : ℕ) → BelowCounts (levels n)
+pub levels-Counts : (requires : Bool) (n : ℕ) → BelowCounts (levels requires n)
 unfolding levels
-levels-Counts zero = record {
+levels-Counts requires zero = record {
   expr = λ c m s. closed-Yields;
   unary = λ c m s. closed-Yields;
   binary_rest = λ level c e h. closed-Yields;
@@ -274,18 +275,18 @@ levels-Counts zero = record {
   conjunction = λ c m s. closed-Yields;
   or_rest = λ c e h. closed-Yields;
 }
-levels-Counts (suc n) = record {
-  expr = expr-Yields (levels-Counts n);
-  unary = unary-Yields (levels-Counts n);
-  binary_rest = binary_rest-Yields (levels-Counts n);
-  operand = operand-Yields (levels-Counts n);
-  tail = tail-Yields (levels-Counts n);
-  called = called-Yields (levels-Counts n);
-  type = type_id-Yields (levels-Counts n);
-  core = core-Yields (levels-Counts n);
-  argument = argument-Yields (levels-Counts n);
-  clause_primary = clause_primary-Yields (levels-Counts n);
-  and_rest = and_rest-Yields (levels-Counts n);
-  conjunction = conjunction-Yields (levels-Counts n);
-  or_rest = or_rest-Yields (levels-Counts n);
+levels-Counts requires (suc n) = record {
+  expr = expr-Yields (levels-Counts requires n);
+  unary = unary-Yields (levels-Counts requires n);
+  binary_rest = binary_rest-Yields (levels-Counts requires n);
+  operand = operand-Yields (levels-Counts requires n);
+  tail = tail-Yields (levels-Counts requires n);
+  called = called-Yields (levels-Counts requires n);
+  type = type_id-Yields (levels-Counts requires n);
+  core = core-Yields (levels-Counts requires n);
+  argument = argument-Yields (levels-Counts requires n);
+  clause_primary = clause_primary-Yields (levels-Counts requires n);
+  and_rest = and_rest-Yields (levels-Counts requires n);
+  conjunction = conjunction-Yields (levels-Counts requires n);
+  or_rest = or_rest-Yields (levels-Counts requires n);
 }

@@ -4,10 +4,17 @@ use Rattle.cx_base.specs.declared.place.Place.{Place}
 use Rattle.cx_tree.specs.Trees.{Mark, ExprTree, TypeTree, CoreTree, ArgumentTree, exprs, arguments}
 use Rattle.cx_tree.specs.Nodes.{expr_nodes, exprs_nodes, type_nodes, core_nodes, argument_nodes}
 use Rattle.cx_grammar.specs.Names.{Context, deeper, inside, listed}
-use Rattle.cx_grammar.specs.Types.{Numbered, Placed, Calling, Below, numbered, scalar_behind, word_core, long_core, scalar_core, more_argument, some_arguments, argument_list, qualified_names, class_core, type_name_core, head_core, member_core, decltype_core, void_core, scalar_only, core, maybe_const, maybe_reference, type_behind, const_type, bare_type, type_id}
+use Rattle.cx_grammar.specs.Types.{Numbered, Named, Placed, Calling, Below, numbered, scalar_behind, word_core, long_core, scalar_core, more_argument, some_arguments, argument_list, qualified_names, class_core, type_name_core, head_core, member_core, decltype_core, void_core, scalar_only, core, maybe_const, maybe_reference, type_behind, const_type, bare_type, type_id}
 use Rattle.cx_grammar.proofs.Counts.{Yields, give-Yields, then-Yields, take, past, when-Yields, repeat-Yields, Counted, seq, leaf, node_ahead, later, sooner, as_list, counts_up, argument_marks, arguments_more, arguments_one}
 
 -- what trees give: the nodes from a number and a count of pieces on
+abbrev pub Of : {A : Type 0} → (A → List Mark) → ℕ → ℕ → ℕ → Numbered A → Type 0
+Of nodes n s k x = Counted n s (nodes x.0) x.1 k
+
+-- ... with names behind them
+abbrev pub OfNamed : {A : Type 0} → (A → List Mark) → ℕ → ℕ → ℕ → Named A → Type 0
+OfNamed nodes n s k x = Counted n s (nodes x.0) x.1 k
+
 abbrev pub OfExpr : ℕ → ℕ → ℕ → Numbered ExprTree → Type 0
 OfExpr n s k x = Counted n s (expr_nodes x.0) x.1 k
 
@@ -72,7 +79,7 @@ void_core-Yields : (c : Context) (n s : ℕ) → Yields (void_core c n) s (OfCor
 unfolding void_core
 void_core-Yields c n s = take (λ t. give-Yields (λ at. leaf (omega arith)))
 
-type_name_core-Yields : (c : Context) (n s : ℕ) → Yields (type_name_core c n) s (OfCore' n s)
+pub type_name_core-Yields : (c : Context) (n s : ℕ) → Yields (type_name_core c n) s (OfCore' n s)
 unfolding type_name_core
 type_name_core-Yields c n s = take (λ t. give-Yields (λ at. leaf (omega arith)))
 
@@ -98,7 +105,7 @@ module _ {b : Below} (k : BelowCounts b) where
       let up = counts_up g in
       (sooner (later g (omega arith)) (omega arith), omega arith)))))
 
-  class_core-Yields : (c : Context) (n s : ℕ) → Yields (class_core b c n) s (OfCore' n s)
+  pub class_core-Yields : (c : Context) (n s : ℕ) → Yields (class_core b c n) s (OfCore' n s)
   unfolding class_core
   class_core-Yields c n s = take (λ t. then-Yields (argument_list-Yields c n (s + 1)) (λ a i g. give-Yields (λ at. node_ahead at g.0 (omega arith))))
 

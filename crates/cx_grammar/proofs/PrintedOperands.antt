@@ -1,5 +1,5 @@
 -- Binary expressions are as they are printed.
-use Rattle.std.proofs.Common.{◌≡◌, ◌⊎◌, inl, inr, ℕ, zero, suc, ◌+◌, true, false, List, [], ◌∷◌, ◌++◌, refl, sym, ap, ◌∙◌, subst, append-nil}
+use Rattle.std.proofs.Common.{Bool, ◌≡◌, ◌⊎◌, inl, inr, ℕ, zero, suc, ◌+◌, true, false, List, [], ◌∷◌, ◌++◌, refl, sym, ap, ◌∙◌, subst, append-nil}
 use Rattle.cx_tree.specs.Trees.{ExprTree, BinaryTree}
 use Rattle.cx_tree.specs.declared.operators.BinaryOperator.{BinaryOperator}
 use Rattle.cx_grammar.specs.Pieces.{Piece}
@@ -24,18 +24,18 @@ chain-Starts b level c left = first-Starts _ (operator-Starts level c)
 abbrev more_right : Numbered ExprTree → BinaryOperator → Numbered ExprTree → Numbered ExprTree
 more_right left o right = (BinaryTree (marked right.1 left.0) o left.0 right.0, right.1 + 1)
 
-record Grouping (depth level : ℕ) (c : Context) (left : Numbered ExprTree) (l : ℕ) (ts behind : List Piece) (y : Numbered ExprTree) : Type 0 where
+record Grouping (requires : Bool) (depth level : ℕ) (c : Context) (left : Numbered ExprTree) (l : ℕ) (ts behind : List Piece) (y : Numbered ExprTree) : Type 0 where
   more : List Joined
-  whole : (joined depth level c left.1).whole l ts behind more
+  whole : (joined requires depth level c left.1).whole l ts behind more
   same : y ≡ grouped left more
 
-module _ (level : ℕ) where
-  alone_whole : (depth : ℕ) (c : Context) (n l : ℕ) (ts behind : List Piece) → ts ≡ [] → (joined depth level c n).whole l ts behind []
+module _ (requires : Bool) (level : ℕ) where
+  alone_whole : (depth : ℕ) (c : Context) (n l : ℕ) (ts behind : List Piece) → ts ≡ [] → (joined requires depth level c n).whole l ts behind []
   unfolding joined
   alone_whole zero c n l ts behind e = inr (e, refl)
   alone_whole (suc depth) c n l ts behind e = inr (e, refl)
 
-  alone_front : (depth : ℕ) (c : Context) (n l : ℕ) (ts : List Piece) → ts ≡ [] → (joined depth level c n).front l ts
+  alone_front : (depth : ℕ) (c : Context) (n l : ℕ) (ts : List Piece) → ts ≡ [] → (joined requires depth level c n).front l ts
   unfolding joined
   alone_front zero c n l ts e = inr e
   alone_front (suc depth) c n l ts e = inr e
@@ -43,14 +43,14 @@ module _ (level : ℕ) where
   -- ---- trees
 
   abbrev Groups : ℕ → Type 0
-  Groups depth = (c : Context) (left : Numbered ExprTree) (l : ℕ) (ts behind : List Piece) (y : Numbered ExprTree) → (binary_rest (levels depth) level c left).whole l ts behind y → Grouping depth level c left l ts behind y
+  Groups depth = (c : Context) (left : Numbered ExprTree) (l : ℕ) (ts behind : List Piece) (y : Numbered ExprTree) → (binary_rest (levels requires depth) level c left).whole l ts behind y → Grouping requires depth level c left l ts behind y
 
-  no_chain : (c : Context) (left : Numbered ExprTree) (l : ℕ) (ts behind : List Piece) (y : Numbered ExprTree) → (binary_chain (levels zero) level c left).whole l ts behind y → ⊥
+  no_chain : (c : Context) (left : Numbered ExprTree) (l : ℕ) (ts behind : List Piece) (y : Numbered ExprTree) → (binary_chain (levels requires zero) level c left).whole l ts behind y → ⊥
   unfolding binary_chain levels
   no_chain c left l ts behind y (o, us, vs, e, w, (right, us', vs', e', w', v)) = w'
 
-  groups_chain : (depth : ℕ) → Groups depth → (c : Context) (left : Numbered ExprTree) (l : ℕ) (ts behind : List Piece) (y : Numbered ExprTree) → (binary_chain (levels (suc depth)) level c left).whole l ts behind y
-      → Grouping (suc depth) level c left l ts behind y
+  groups_chain : (depth : ℕ) → Groups depth → (c : Context) (left : Numbered ExprTree) (l : ℕ) (ts behind : List Piece) (y : Numbered ExprTree) → (binary_chain (levels requires (suc depth)) level c left).whole l ts behind y
+      → Grouping requires (suc depth) level c left l ts behind y
   unfolding binary_chain levels joined
   groups_chain depth ih c left l ts behind y (o, us, vs, e, w, (right, us', vs', e', w', v)) =
       let g = ih (deeper c) (more_right left o right) l vs' behind y v in
@@ -60,12 +60,12 @@ module _ (level : ℕ) where
         same = g.same;
       }
 
-  groups_where : (depth : ℕ) → ((c : Context) (left : Numbered ExprTree) (l : ℕ) (ts behind : List Piece) (y : Numbered ExprTree) → (binary_chain (levels depth) level c left).whole l ts behind y → Grouping depth level c left l ts behind y)
+  groups_where : (depth : ℕ) → ((c : Context) (left : Numbered ExprTree) (l : ℕ) (ts behind : List Piece) (y : Numbered ExprTree) → (binary_chain (levels requires depth) level c left).whole l ts behind y → Grouping requires depth level c left l ts behind y)
       → Groups depth
   unfolding binary_rest
-  groups_where depth h c left l ts behind y w = go (when_cases (is_operator level c.angle) (binary_chain (levels depth) level c left) (give left) l ts behind y w)
+  groups_where depth h c left l ts behind y w = go (when_cases (is_operator level c.angle) (binary_chain (levels requires depth) level c left) (give left) l ts behind y w)
     where
-      go : (binary_chain (levels depth) level c left).whole l ts behind y ⊎ (give left).whole l ts behind y → Grouping depth level c left l ts behind y
+      go : (binary_chain (levels requires depth) level c left).whole l ts behind y ⊎ (give left).whole l ts behind y → Grouping requires depth level c left l ts behind y
       go (inl k) = h c left l ts behind y k
       go (inr (e, d)) = record { more = []; whole = alone_whole depth c left.1 l ts behind e; same = d }
 
@@ -74,20 +74,20 @@ module _ (level : ℕ) where
   groups (suc depth) = groups_where (suc depth) (groups_chain depth (groups depth))
 
   abbrev Ungroups : ℕ → Type 0
-  Ungroups depth = (c : Context) (left : Numbered ExprTree) (l : ℕ) (ts behind : List Piece) (more : List Joined) → begins (is_operator level c.angle) behind ≡ false → (joined depth level c left.1).whole l ts behind more
-      → (binary_rest (levels depth) level c left).whole l ts behind (grouped left more)
+  Ungroups depth = (c : Context) (left : Numbered ExprTree) (l : ℕ) (ts behind : List Piece) (more : List Joined) → begins (is_operator level c.angle) behind ≡ false → (joined requires depth level c left.1).whole l ts behind more
+      → (binary_rest (levels requires depth) level c left).whole l ts behind (grouped left more)
 
   rest_alone : (depth : ℕ) (c : Context) (left : Numbered ExprTree) (l : ℕ) (ts behind : List Piece) (more : List Joined) → begins (is_operator level c.angle) behind ≡ false → ts ≡ [] → more ≡ []
-      → (binary_rest (levels depth) level c left).whole l ts behind (grouped left more)
+      → (binary_rest (levels requires depth) level c left).whole l ts behind (grouped left more)
   unfolding binary_rest
   rest_alone depth c left l ts behind more h e d =
-      when_second (is_operator level c.angle) (binary_chain (levels depth) level c left) (give left) l ts behind (grouped left more)
+      when_second (is_operator level c.angle) (binary_chain (levels requires depth) level c left) (give left) l ts behind (grouped left more)
       (ap (λ (s : List Piece). begins (is_operator level c.angle) (s ++ behind)) e ∙ h) (e, ap (λ (z : List Joined). grouped left z) d)
 
-  rest_chain : (depth : ℕ) (c : Context) (left : Numbered ExprTree) (l : ℕ) (ts behind : List Piece) (y : Numbered ExprTree) → (binary_chain (levels depth) level c left).whole l ts behind y → (binary_rest (levels depth) level c left).whole l ts behind y
+  rest_chain : (depth : ℕ) (c : Context) (left : Numbered ExprTree) (l : ℕ) (ts behind : List Piece) (y : Numbered ExprTree) → (binary_chain (levels requires depth) level c left).whole l ts behind y → (binary_rest (levels requires depth) level c left).whole l ts behind y
   unfolding binary_rest
   rest_chain depth c left l ts behind y w =
-      when_first (is_operator level c.angle) (binary_chain (levels depth) level c left) (give left) l ts behind y ((chain-Starts (levels depth) level c left).begins_so l ts behind y w) w
+      when_first (is_operator level c.angle) (binary_chain (levels requires depth) level c left) (give left) l ts behind y ((chain-Starts (levels requires depth) level c left).begins_so l ts behind y w) w
 
   ungroups-zero : Ungroups zero
   unfolding joined
@@ -100,15 +100,15 @@ module _ (level : ℕ) where
   ungroups-suc depth ih c left l ts behind more h (inl (o, us, vs, e, w, (right, us', vs', e', w', (rest, us2, vs2, e2, w2, (e3, d))))) =
       let all : us2 ≡ vs' = sym (e2 ∙ ap (λ (s : List Piece). us2 ++ s) e3 ∙ append-nil us2) in
       let k = ih (deeper c) (more_right left o right) l us2 (vs2 ++ behind) rest (ap (λ (s : List Piece). begins (is_operator level c.angle) (s ++ behind)) e3 ∙ h) w2 in
-      let k' = subst (λ (s : List Piece). (binary_rest (levels depth) level (deeper c) (more_right left o right)).whole l s behind (grouped (more_right left o right) rest)) all
-      (subst (λ (s : List Piece). (binary_rest (levels depth) level (deeper c) (more_right left o right)).whole l us2 (s ++ behind) (grouped (more_right left o right) rest)) e3 k) in
-      subst (λ (z : List Joined). (binary_rest (levels (suc depth)) level c left).whole l ts behind (grouped left z)) (sym d)
+      let k' = subst (λ (s : List Piece). (binary_rest (levels requires depth) level (deeper c) (more_right left o right)).whole l s behind (grouped (more_right left o right) rest)) all
+      (subst (λ (s : List Piece). (binary_rest (levels requires depth) level (deeper c) (more_right left o right)).whole l us2 (s ++ behind) (grouped (more_right left o right) rest)) e3 k) in
+      subst (λ (z : List Joined). (binary_rest (levels requires (suc depth)) level c left).whole l ts behind (grouped left z)) (sym d)
       (rest_chain (suc depth) c left l ts behind (grouped left ((o, right) ∷ rest)) (chained o us vs right us' vs' rest e w e' w' k'))
     where
       chained : (o : BinaryOperator) (us vs : List Piece) (right : Numbered ExprTree) (us' vs' : List Piece) (rest : List Joined) → ts ≡ us ++ vs → (operator level c).whole l us (vs ++ behind) o
-          → vs ≡ us' ++ vs' → (operand (levels depth) level (deeper c) left.1).whole l us' (vs' ++ behind) right
-          → (binary_rest (levels depth) level (deeper c) (more_right left o right)).whole l vs' behind (grouped (more_right left o right) rest)
-          → (binary_chain (levels (suc depth)) level c left).whole l ts behind (grouped left ((o, right) ∷ rest))
+          → vs ≡ us' ++ vs' → (operand (levels requires depth) level (deeper c) left.1).whole l us' (vs' ++ behind) right
+          → (binary_rest (levels requires depth) level (deeper c) (more_right left o right)).whole l vs' behind (grouped (more_right left o right) rest)
+          → (binary_chain (levels requires (suc depth)) level c left).whole l ts behind (grouped left ((o, right) ∷ rest))
       chained o us vs right us' vs' rest e w e' w' k = (o, us, vs, e, w, (right, us', vs', e', w', k))
 
   ungroups : (depth : ℕ) → Ungroups depth
@@ -118,23 +118,23 @@ module _ (level : ℕ) where
   -- ---- beginnings
 
   abbrev Fronts : ℕ → Type 0
-  Fronts depth = (c : Context) (left : Numbered ExprTree) (l : ℕ) (ts : List Piece) → (binary_rest (levels depth) level c left).front l ts → (joined depth level c left.1).front l ts
+  Fronts depth = (c : Context) (left : Numbered ExprTree) (l : ℕ) (ts : List Piece) → (binary_rest (levels requires depth) level c left).front l ts → (joined requires depth level c left.1).front l ts
 
-  fronts_where : (depth : ℕ) → ((c : Context) (left : Numbered ExprTree) (l : ℕ) (ts : List Piece) → (binary_chain (levels depth) level c left).front l ts → (joined depth level c left.1).front l ts) → Fronts depth
+  fronts_where : (depth : ℕ) → ((c : Context) (left : Numbered ExprTree) (l : ℕ) (ts : List Piece) → (binary_chain (levels requires depth) level c left).front l ts → (joined requires depth level c left.1).front l ts) → Fronts depth
   unfolding binary_rest
-  fronts_where depth h c left l ts k = go (when_fronts (is_operator level c.angle) (binary_chain (levels depth) level c left) (give left) l ts k)
+  fronts_where depth h c left l ts k = go (when_fronts (is_operator level c.angle) (binary_chain (levels requires depth) level c left) (give left) l ts k)
     where
-      go : (binary_chain (levels depth) level c left).front l ts ⊎ (ts ≡ []) → (joined depth level c left.1).front l ts
+      go : (binary_chain (levels requires depth) level c left).front l ts ⊎ (ts ≡ []) → (joined requires depth level c left.1).front l ts
       go (inl k) = h c left l ts k
       go (inr e) = alone_front depth c left.1 l ts e
 
-  chain_fronts-zero : (c : Context) (left : Numbered ExprTree) (l : ℕ) (ts : List Piece) → (binary_chain (levels zero) level c left).front l ts → (joined zero level c left.1).front l ts
+  chain_fronts-zero : (c : Context) (left : Numbered ExprTree) (l : ℕ) (ts : List Piece) → (binary_chain (levels requires zero) level c left).front l ts → (joined requires zero level c left.1).front l ts
   unfolding binary_chain levels joined
   chain_fronts-zero c left l ts (inl k) = inl (inl k)
   chain_fronts-zero c left l ts (inr (o, us, vs, e, w, inl k)) = inl (inr (o, us, vs, e, w, k))
   chain_fronts-zero c left l ts (inr (o, us, vs, e, w, inr (right, us', vs', e', w', k))) = absurd w'
 
-  chain_fronts-suc : (depth : ℕ) → Fronts depth → (c : Context) (left : Numbered ExprTree) (l : ℕ) (ts : List Piece) → (binary_chain (levels (suc depth)) level c left).front l ts → (joined (suc depth) level c left.1).front l ts
+  chain_fronts-suc : (depth : ℕ) → Fronts depth → (c : Context) (left : Numbered ExprTree) (l : ℕ) (ts : List Piece) → (binary_chain (levels requires (suc depth)) level c left).front l ts → (joined requires (suc depth) level c left.1).front l ts
   unfolding binary_chain levels joined
   chain_fronts-suc depth ih c left l ts (inl k) = inl (inl k)
   chain_fronts-suc depth ih c left l ts (inr (o, us, vs, e, w, inl k)) = inl (inr (o, us, vs, e, w, inl k))
@@ -145,29 +145,29 @@ module _ (level : ℕ) where
   fronts (suc depth) = fronts_where (suc depth) (chain_fronts-suc depth (fronts depth))
 
   abbrev Backs : ℕ → Type 0
-  Backs depth = (c : Context) (left : Numbered ExprTree) (l : ℕ) (ts : List Piece) → (joined depth level c left.1).front l ts → (binary_rest (levels depth) level c left).front l ts
+  Backs depth = (c : Context) (left : Numbered ExprTree) (l : ℕ) (ts : List Piece) → (joined requires depth level c left.1).front l ts → (binary_rest (levels requires depth) level c left).front l ts
 
-  rest-Lawful : (depth : ℕ) (c : Context) (left : Numbered ExprTree) → Lawful (binary_rest (levels depth) level c left)
+  rest-Lawful : (depth : ℕ) (c : Context) (left : Numbered ExprTree) → Lawful requires (binary_rest (levels requires depth) level c left)
   unfolding levels
   rest-Lawful depth c left = ((levels-Grows (suc depth)).binary_rest level c left).low
 
-  rest_empty : (depth : ℕ) (c : Context) (left : Numbered ExprTree) (l : ℕ) (ts : List Piece) → ts ≡ [] → (binary_rest (levels depth) level c left).front l ts
-  rest_empty depth c left l ts e = subst (λ (s : List Piece). (binary_rest (levels depth) level c left).front l s) (sym e) ((rest-Lawful depth c left).starts l)
+  rest_empty : (depth : ℕ) (c : Context) (left : Numbered ExprTree) (l : ℕ) (ts : List Piece) → ts ≡ [] → (binary_rest (levels requires depth) level c left).front l ts
+  rest_empty depth c left l ts e = subst (λ (s : List Piece). (binary_rest (levels requires depth) level c left).front l s) (sym e) ((rest-Lawful depth c left).starts l)
 
-  chain_front : (depth : ℕ) (c : Context) (left : Numbered ExprTree) (l : ℕ) (ts : List Piece) → (binary_chain (levels depth) level c left).front l ts → (binary_rest (levels depth) level c left).front l ts
+  chain_front : (depth : ℕ) (c : Context) (left : Numbered ExprTree) (l : ℕ) (ts : List Piece) → (binary_chain (levels requires depth) level c left).front l ts → (binary_rest (levels requires depth) level c left).front l ts
   unfolding binary_rest
-  chain_front depth c left l ts k = go ((chain-Starts (levels depth) level c left).begun_so l ts k)
+  chain_front depth c left l ts k = go ((chain-Starts (levels requires depth) level c left).begun_so l ts k)
     where
-      go : (ts ≡ []) ⊎ (begins (is_operator level c.angle) ts ≡ true) → (binary_rest (levels depth) level c left).front l ts
+      go : (ts ≡ []) ⊎ (begins (is_operator level c.angle) ts ≡ true) → (binary_rest (levels requires depth) level c left).front l ts
       go (inl e) = rest_empty depth c left l ts e
-      go (inr e) = first_front (is_operator level c.angle) (binary_chain (levels depth) level c left) (give left) l ts e k
+      go (inr e) = first_front (is_operator level c.angle) (binary_chain (levels requires depth) level c left) (give left) l ts e k
 
   -- where the last operand of a chain is whole
-  whole_begun : (depth : ℕ) (c : Context) (left : Numbered ExprTree) (l : ℕ) (ts us vs : List Piece) (more : List Joined) → ts ≡ us ++ vs → (joined depth level c left.1).whole l us vs more → vs ≡ []
-      → (binary_rest (levels depth) level c left).front l ts
+  whole_begun : (depth : ℕ) (c : Context) (left : Numbered ExprTree) (l : ℕ) (ts us vs : List Piece) (more : List Joined) → ts ≡ us ++ vs → (joined requires depth level c left.1).whole l us vs more → vs ≡ []
+      → (binary_rest (levels requires depth) level c left).front l ts
   whole_begun depth c left l ts us vs more e w d =
       let k = ungroups depth c left l us vs more (ap (λ (s : List Piece). begins (is_operator level c.angle) s) d ∙ begins_none (is_operator level c.angle)) w in
-      subst (λ (s : List Piece). (binary_rest (levels depth) level c left).front l s) (sym (e ∙ ap (λ (s : List Piece). us ++ s) d ∙ append-nil us)) ((rest-Lawful depth c left).whole_front l us vs (grouped left more) k)
+      subst (λ (s : List Piece). (binary_rest (levels requires depth) level c left).front l s) (sym (e ∙ ap (λ (s : List Piece). us ++ s) d ∙ append-nil us)) ((rest-Lawful depth c left).whole_front l us vs (grouped left more) k)
 
   backs-zero : Backs zero
   unfolding joined binary_chain levels
@@ -193,31 +193,31 @@ module _ (level : ℕ) where
 
   module _ (depth : ℕ) (c : Context) (n : ℕ) where
     abbrev chains : Production (Numbered ExprTree)
-    chains = operand (levels depth) level c n >>= binary_rest (levels depth) level c
+    chains = operand (levels requires depth) level c n >>= binary_rest (levels requires depth) level c
 
-    to_chains : (l : ℕ) (ts behind : List Piece) (y : Numbered ExprTree) → (operand (levels depth) (suc level) c n).whole l ts behind y → chains.whole l ts behind y
+    to_chains : (l : ℕ) (ts behind : List Piece) (y : Numbered ExprTree) → (operand (levels requires depth) (suc level) c n).whole l ts behind y → chains.whole l ts behind y
     unfolding operand rests
-    to_chains l ts behind y w = left_whole (unary (levels depth) c n) (rests (levels depth) level c) (binary_rest (levels depth) level c) l ts behind y w
+    to_chains l ts behind y w = left_whole (unary (levels requires depth) c n) (rests (levels requires depth) level c) (binary_rest (levels requires depth) level c) l ts behind y w
 
-    from_chains : (l : ℕ) (ts behind : List Piece) (y : Numbered ExprTree) → chains.whole l ts behind y → (operand (levels depth) (suc level) c n).whole l ts behind y
+    from_chains : (l : ℕ) (ts behind : List Piece) (y : Numbered ExprTree) → chains.whole l ts behind y → (operand (levels requires depth) (suc level) c n).whole l ts behind y
     unfolding operand rests
-    from_chains l ts behind y w = right_whole (unary (levels depth) c n) (rests (levels depth) level c) (binary_rest (levels depth) level c) l ts behind y w
+    from_chains l ts behind y w = right_whole (unary (levels requires depth) c n) (rests (levels requires depth) level c) (binary_rest (levels requires depth) level c) l ts behind y w
 
-    to_chains_front : (l : ℕ) (ts : List Piece) → (operand (levels depth) (suc level) c n).front l ts → chains.front l ts
+    to_chains_front : (l : ℕ) (ts : List Piece) → (operand (levels requires depth) (suc level) c n).front l ts → chains.front l ts
     unfolding operand rests
-    to_chains_front l ts k = left_front (unary (levels depth) c n) (rests (levels depth) level c) (binary_rest (levels depth) level c) l ts k
+    to_chains_front l ts k = left_front (unary (levels requires depth) c n) (rests (levels requires depth) level c) (binary_rest (levels requires depth) level c) l ts k
 
-    from_chains_front : (l : ℕ) (ts : List Piece) → chains.front l ts → (operand (levels depth) (suc level) c n).front l ts
+    from_chains_front : (l : ℕ) (ts : List Piece) → chains.front l ts → (operand (levels requires depth) (suc level) c n).front l ts
     unfolding operand rests
-    from_chains_front l ts k = right_front (unary (levels depth) c n) (rests (levels depth) level c) (binary_rest (levels depth) level c) l ts k
+    from_chains_front l ts k = right_front (unary (levels requires depth) c n) (rests (levels requires depth) level c) (binary_rest (levels requires depth) level c) l ts k
 
-    printed_of : (l : ℕ) (ts behind : List Piece) (y : Numbered ExprTree) → chains.whole l ts behind y → (printed_operand depth level c n).whole l ts behind y
+    printed_of : (l : ℕ) (ts behind : List Piece) (y : Numbered ExprTree) → chains.whole l ts behind y → (printed_operand requires depth level c n).whole l ts behind y
     unfolding printed_operand
     printed_of l ts behind y (left, us, vs, e, w, v) =
         let g = groups depth c left l vs behind y v in
         (left, us, vs, e, w, (g.more, vs, [], sym (append-nil vs), g.whole, (refl, g.same)))
 
-    chains_of : (l : ℕ) (ts behind : List Piece) (y : Numbered ExprTree) → begins (is_operator level c.angle) behind ≡ false → (printed_operand depth level c n).whole l ts behind y → chains.whole l ts behind y
+    chains_of : (l : ℕ) (ts behind : List Piece) (y : Numbered ExprTree) → begins (is_operator level c.angle) behind ≡ false → (printed_operand requires depth level c n).whole l ts behind y → chains.whole l ts behind y
     unfolding printed_operand
     chains_of l ts behind y h (left, us, vs, e, w, (more, us', vs', e', w', (e2, d))) =
         let all : us' ≡ vs = sym (e' ∙ ap (λ (s : List Piece). us' ++ s) e2 ∙ append-nil us') in
@@ -227,23 +227,23 @@ module _ (level : ℕ) where
           vs,
           e,
           w,
-          subst (λ (z : Numbered ExprTree). (binary_rest (levels depth) level c left).whole l vs behind z) (sym d)
-              (subst (λ (s : List Piece). (binary_rest (levels depth) level c left).whole l s behind (grouped left more)) all
-              (subst (λ (s : List Piece). (binary_rest (levels depth) level c left).whole l us' (s ++ behind) (grouped left more)) e2 k)),
+          subst (λ (z : Numbered ExprTree). (binary_rest (levels requires depth) level c left).whole l vs behind z) (sym d)
+              (subst (λ (s : List Piece). (binary_rest (levels requires depth) level c left).whole l s behind (grouped left more)) all
+              (subst (λ (s : List Piece). (binary_rest (levels requires depth) level c left).whole l us' (s ++ behind) (grouped left more)) e2 k)),
         )
 
-    printed_front : (l : ℕ) (ts : List Piece) → chains.front l ts → (printed_operand depth level c n).front l ts
+    printed_front : (l : ℕ) (ts : List Piece) → chains.front l ts → (printed_operand requires depth level c n).front l ts
     unfolding printed_operand
     printed_front l ts (inl k) = inl k
     printed_front l ts (inr (left, us, vs, e, w, k)) = inr (left, us, vs, e, w, inl (fronts depth c left l vs k))
 
-    chains_front : (l : ℕ) (ts : List Piece) → (printed_operand depth level c n).front l ts → chains.front l ts
+    chains_front : (l : ℕ) (ts : List Piece) → (printed_operand requires depth level c n).front l ts → chains.front l ts
     unfolding printed_operand
     chains_front l ts (inl k) = inl k
     chains_front l ts (inr (left, us, vs, e, w, inl k)) = inr (left, us, vs, e, w, backs depth c left l vs k)
     chains_front l ts (inr (left, us, vs, e, w, inr (more, us', vs', e', w', d))) = inr (left, us, vs, e, w, whole_begun depth c left l vs us' vs' more e' w' d)
 
-    pub operand_printed : IsAsPrinted (operand (levels depth) (suc level) c n) (is_operator level c.angle) (printed_operand depth level c n)
+    pub operand_printed : IsAsPrinted (operand (levels requires depth) (suc level) c n) (is_operator level c.angle) (printed_operand requires depth level c n)
     operand_printed = record {
       same_trees = λ l ts behind y h. (λ w. printed_of l ts behind y (to_chains l ts behind y w), λ w. from_chains l ts behind y (chains_of l ts behind y h w));
       same_beginnings = λ l ts. (λ k. printed_front l ts (to_chains_front l ts k), λ k. from_chains_front l ts (chains_front l ts k));

@@ -54,7 +54,8 @@ record Reads (e : Numbered ExprTree) (p : Production (Numbered ExprTree)) (R : R
   back : (l : ℕ) (ts behind : List Piece) (more : List Suffix) → begins behind_postfix behind ≡ false → R.whole l ts behind more → p.whole l ts behind (applied_all e more)
   begun : (l : ℕ) (ts : List Piece) → p.front l ts → R.front l ts
   begun_back : (l : ℕ) (ts : List Piece) → R.front l ts → p.front l ts
-  lawful : Lawful p
+  reads : Bool
+  lawful : Lawful reads p
 
 -- whole suffixes are a beginning
 begun_whole : {e : Numbered ExprTree} {p : Production (Numbered ExprTree)} {R : Relation (List Suffix)} → Reads e p R → (l : ℕ) (vs us2 vs2 : List Piece) (more : List Suffix) → vs ≡ us2 ++ vs2 → R.whole l us2 vs2 more → vs2 ≡ [] → p.front l vs
@@ -73,6 +74,7 @@ closed-Reads e = record {
   back = λ l ts behind more n w. absurd w;
   begun = λ l ts k. k;
   begun_back = λ l ts k. k;
+  reads = false;
   lawful = closed-Lawful;
 }
 
@@ -152,29 +154,29 @@ call-Starts : (b : Below) (c : Context) (e : Numbered ExprTree) → Starts (punc
 unfolding call
 call-Starts b c e = token-Starts _ _ _
 
-call-zero : (c : Context) (e : Numbered ExprTree) → ReadsSo e (call (levels zero) c e) (called_with zero (λ calling c n. trees_of closed) c e.1)
+call-zero : (requires : Bool) (c : Context) (e : Numbered ExprTree) → ReadsSo e (call (levels requires zero) c e) (called_with requires zero (λ calling c n. trees_of closed) c e.1)
 unfolding call levels
-call-zero c e = record {
+call-zero requires c e = record {
   to = λ l ts behind y w. absurd (w.5);
   back = λ l ts behind more n w. absurd (w.5);
   begun = λ l ts k. k;
   begun_back = λ l ts k. k;
 }
 
-module _ (depth : ℕ) (R : Behind) (h : ReadsAll (levels (suc depth)).tail R) where
-  call_to : (c : Context) (e : Numbered ExprTree) (l : ℕ) (ts behind : List Piece) (y : Numbered ExprTree) → (call (levels (suc depth)) c e).whole l ts behind y → Suffixed (called_with (suc depth) R c e.1) e l ts behind y
+module _ (requires : Bool) (depth : ℕ) (R : Behind) (h : ReadsAll (levels requires (suc depth)).tail R) where
+  call_to : (c : Context) (e : Numbered ExprTree) (l : ℕ) (ts behind : List Piece) (y : Numbered ExprTree) → (call (levels requires (suc depth)) c e).whole l ts behind y → Suffixed (called_with requires (suc depth) R c e.1) e l ts behind y
   unfolding call called tail levels
   call_to c e l ts behind y (o, us, vs, e1, w, (es, us', vs', e2, w', (r, us2, vs2, e3, w2, v))) =
       let g = (h NoCall (deeper c) (applied e (Arguments es))).to l vs2 behind y v in
       record { more = Arguments es ∷ g.more; whole = (o, us, vs, e1, w, (es, us', vs', e2, w', (r, us2, vs2, e3, w2, (g.more, vs2, [], sym (append-nil vs2), g.whole, (refl, refl))))); same = g.same }
 
-  call_back : (c : Context) (e : Numbered ExprTree) (l : ℕ) (ts behind : List Piece) (more : List Suffix) → begins behind_postfix behind ≡ false → (called_with (suc depth) R c e.1).whole l ts behind more → (call (levels (suc depth)) c e).whole l ts behind (applied_all e more)
+  call_back : (c : Context) (e : Numbered ExprTree) (l : ℕ) (ts behind : List Piece) (more : List Suffix) → begins behind_postfix behind ≡ false → (called_with requires (suc depth) R c e.1).whole l ts behind more → (call (levels requires (suc depth)) c e).whole l ts behind (applied_all e more)
   unfolding call called tail levels
   call_back c e l ts behind more n (o, us, vs, e1, w, (es, us', vs', e2, w', (r, us2, vs2, e3, w2, (last, us3, vs3, e4, w3, (e5, same))))) =
       let k = back_last (h NoCall (deeper c) (applied e (Arguments es))) l vs2 us3 vs3 behind last n e4 e5 w3 in
-      (o, us, vs, e1, w, (es, us', vs', e2, w', (r, us2, vs2, e3, w2, subst (λ (z : List Suffix). ((levels (suc depth)).tail NoCall (deeper c) (applied e (Arguments es))).whole l vs2 behind (applied_all e z)) (sym same) k)))
+      (o, us, vs, e1, w, (es, us', vs', e2, w', (r, us2, vs2, e3, w2, subst (λ (z : List Suffix). ((levels requires (suc depth)).tail NoCall (deeper c) (applied e (Arguments es))).whole l vs2 behind (applied_all e z)) (sym same) k)))
 
-  call_begun : (c : Context) (e : Numbered ExprTree) (l : ℕ) (ts : List Piece) → (call (levels (suc depth)) c e).front l ts → (called_with (suc depth) R c e.1).front l ts
+  call_begun : (c : Context) (e : Numbered ExprTree) (l : ℕ) (ts : List Piece) → (call (levels requires (suc depth)) c e).front l ts → (called_with requires (suc depth) R c e.1).front l ts
   unfolding call called tail levels
   call_begun c e l ts (inl k) = inl k
   call_begun c e l ts (inr (o, us, vs, e1, w, inl k)) = inr (o, us, vs, e1, w, inl k)
@@ -182,7 +184,7 @@ module _ (depth : ℕ) (R : Behind) (h : ReadsAll (levels (suc depth)).tail R) w
   call_begun c e l ts (inr (o, us, vs, e1, w, inr (es, us', vs', e2, w', inr (r, us2, vs2, e3, w2, k)))) =
       inr (o, us, vs, e1, w, inr (es, us', vs', e2, w', inr (r, us2, vs2, e3, w2, inl ((h NoCall (deeper c) (applied e (Arguments es))).begun l vs2 k))))
 
-  call_begun_back : (c : Context) (e : Numbered ExprTree) (l : ℕ) (ts : List Piece) → (called_with (suc depth) R c e.1).front l ts → (call (levels (suc depth)) c e).front l ts
+  call_begun_back : (c : Context) (e : Numbered ExprTree) (l : ℕ) (ts : List Piece) → (called_with requires (suc depth) R c e.1).front l ts → (call (levels requires (suc depth)) c e).front l ts
   unfolding call called tail levels
   call_begun_back c e l ts (inl k) = inl k
   call_begun_back c e l ts (inr (o, us, vs, e1, w, inl k)) = inr (o, us, vs, e1, w, inl k)
@@ -192,7 +194,7 @@ module _ (depth : ℕ) (R : Behind) (h : ReadsAll (levels (suc depth)).tail R) w
   call_begun_back c e l ts (inr (o, us, vs, e1, w, inr (es, us', vs', e2, w', inr (r, us2, vs2, e3, w2, inr (last, us3, vs3, e4, w3, e5))))) =
       inr (o, us, vs, e1, w, inr (es, us', vs', e2, w', inr (r, us2, vs2, e3, w2, begun_whole (h NoCall (deeper c) (applied e (Arguments es))) l vs2 us3 vs3 last e4 w3 e5)))
 
-  call-suc : (c : Context) (e : Numbered ExprTree) → ReadsSo e (call (levels (suc depth)) c e) (called_with (suc depth) R c e.1)
+  call-suc : (c : Context) (e : Numbered ExprTree) → ReadsSo e (call (levels requires (suc depth)) c e) (called_with requires (suc depth) R c e.1)
   call-suc c e = record { to = call_to c e; back = call_back c e; begun = call_begun c e; begun_back = call_begun_back c e }
 
 -- ---- what may stand behind an operand
@@ -320,7 +322,7 @@ module _ (b : Below) (R : Behind) (h : ReadsAll b.tail R) (c : Context) (e : Num
   begun_from l ts (inl (inr k)) = Steps_begun (step_begun_back b R h c e l ts k)
   begun_from l ts (inr k) = None_begun k
 
-  module _ (C : Relation (List Suffix)) (k : ReadsSo e (call b c e) C) (lawful : (calling : Calling) → Lawful (tail b calling c e)) where
+  module _ {requires : Bool} (C : Relation (List Suffix)) (k : ReadsSo e (call b c e) C) (lawful : (calling : Calling) → Lawful requires (tail b calling c e)) where
     no-Reads : Reads e (tail b NoCall c e) (allowed NoCall C (or (dotted R c e.1) (stepped R c e.1)))
     unfolding tail
     no-Reads = record {
@@ -328,12 +330,13 @@ module _ (b : Below) (R : Behind) (h : ReadsAll b.tail R) (c : Context) (e : Num
       back = λ l ts behind more n w. tailed_back l ts behind (applied_all e more) n (tailed_from l ts behind more n w);
       begun = λ l ts f. begun_to l ts (tail_begun l ts f);
       begun_back = λ l ts f. tail_begun_back l ts (begun_from l ts f);
+      reads = requires;
       lawful = lawful NoCall;
     }
 
     must-Reads : Reads e (tail b MustCall c e) (allowed MustCall C (or (dotted R c e.1) (stepped R c e.1)))
     unfolding tail
-    must-Reads = record { to = k.to; back = k.back; begun = k.begun; begun_back = k.begun_back; lawful = lawful MustCall }
+    must-Reads = record { to = k.to; back = k.back; begun = k.begun; begun_back = k.begun_back; reads = requires; lawful = lawful MustCall }
 
     abbrev may : Relation (List Suffix)
     may = allowed MayCall C (or (dotted R c e.1) (stepped R c e.1))
@@ -373,6 +376,7 @@ module _ (b : Below) (R : Behind) (h : ReadsAll b.tail R) (c : Context) (e : Num
       back = may_back;
       begun = λ l ts f. may_begun l ts (when_fronts (punct (codes "(")) (call b c e) (tail_behind b c e) l ts f);
       begun_back = may_begun_back;
+      reads = requires;
       lawful = lawful MayCall;
     }
 
@@ -383,50 +387,50 @@ module _ (b : Below) (R : Behind) (h : ReadsAll b.tail R) (c : Context) (e : Num
 
 -- ---- all levels
 
-tail-Lawful : (depth : ℕ) (calling : Calling) (c : Context) (e : Numbered ExprTree) → Lawful (tail (levels depth) calling c e)
+tail-Lawful : (requires : Bool) (depth : ℕ) (calling : Calling) (c : Context) (e : Numbered ExprTree) → Lawful requires (tail (levels requires depth) calling c e)
 unfolding levels
-tail-Lawful depth calling c e = ((levels-Grows (suc depth)).tail calling c e).low
+tail-Lawful requires depth calling c e = ((levels-Grows (suc depth)).tail calling c e).low
 
-below-zero : ReadsAll (levels zero).tail (λ calling c n. trees_of closed)
+below-zero : (requires : Bool) → ReadsAll (levels requires zero).tail (λ calling c n. trees_of closed)
 unfolding levels
-below-zero calling c e = closed-Reads e
+below-zero requires calling c e = closed-Reads e
 
-below-suc : (depth : ℕ) → ReadsAll (tail (levels depth)) (suffixes depth) → ReadsAll (levels (suc depth)).tail (suffixes depth)
+below-suc : (requires : Bool) (depth : ℕ) → ReadsAll (tail (levels requires depth)) (suffixes requires depth) → ReadsAll (levels requires (suc depth)).tail (suffixes requires depth)
 unfolding levels
-below-suc depth h = h
+below-suc requires depth h = h
 
-suffixes-Reads : (depth : ℕ) → ReadsAll (tail (levels depth)) (suffixes depth)
+suffixes-Reads : (requires : Bool) (depth : ℕ) → ReadsAll (tail (levels requires depth)) (suffixes requires depth)
 unfolding suffixes
-suffixes-Reads zero calling c e =
-    tail-Reads (levels zero) (λ calling c n. trees_of closed) below-zero c e (called_with zero (λ calling c n. trees_of closed) c e.1) (call-zero c e) (λ calling. tail-Lawful zero calling c e) calling
-suffixes-Reads (suc depth) calling c e =
-    let h = below-suc depth (suffixes-Reads depth) in
-    tail-Reads (levels (suc depth)) (suffixes depth) h c e (called_with (suc depth) (suffixes depth) c e.1) (call-suc depth (suffixes depth) h c e) (λ calling. tail-Lawful (suc depth) calling c e) calling
+suffixes-Reads requires zero calling c e =
+    tail-Reads (levels requires zero) (λ calling c n. trees_of closed) (below-zero requires) c e (called_with requires zero (λ calling c n. trees_of closed) c e.1) (call-zero requires c e) (λ calling. tail-Lawful requires zero calling c e) calling
+suffixes-Reads requires (suc depth) calling c e =
+    let h = below-suc requires depth (suffixes-Reads requires depth) in
+    tail-Reads (levels requires (suc depth)) (suffixes requires depth) h c e (called_with requires (suc depth) (suffixes requires depth) c e.1) (call-suc requires depth (suffixes requires depth) h c e) (λ calling. tail-Lawful requires (suc depth) calling c e) calling
 
-module _ (depth : ℕ) (c : Context) (n : ℕ) where
-  to_printed : (l : ℕ) (ts behind : List Piece) (y : Numbered ExprTree) → (postfix (levels depth) c n).whole l ts behind y → (printed_postfix depth c n).whole l ts behind y
+module _ (requires : Bool) (depth : ℕ) (c : Context) (n : ℕ) where
+  to_printed : (l : ℕ) (ts behind : List Piece) (y : Numbered ExprTree) → (postfix (levels requires depth) c n).whole l ts behind y → (printed_postfix requires depth c n).whole l ts behind y
   unfolding postfix printed_postfix
   to_printed l ts behind y (p, us, vs, e, w, v) =
-      let g = (suffixes-Reads depth p.1 c p.0).to l vs behind y v in
+      let g = (suffixes-Reads requires depth p.1 c p.0).to l vs behind y v in
       (p, us, vs, e, w, (g.more, vs, [], sym (append-nil vs), g.whole, (refl, g.same)))
 
-  from_printed : (l : ℕ) (ts behind : List Piece) (y : Numbered ExprTree) → begins behind_postfix behind ≡ false → (printed_postfix depth c n).whole l ts behind y → (postfix (levels depth) c n).whole l ts behind y
+  from_printed : (l : ℕ) (ts behind : List Piece) (y : Numbered ExprTree) → begins behind_postfix behind ≡ false → (printed_postfix requires depth c n).whole l ts behind y → (postfix (levels requires depth) c n).whole l ts behind y
   unfolding postfix printed_postfix
   from_printed l ts behind y h (p, us, vs, e, w, (more, us2, vs2, e2, w2, (e3, same))) =
-      (p, us, vs, e, w, subst (λ (z : Numbered ExprTree). (tail (levels depth) p.1 c p.0).whole l vs behind z) (sym same) (back_last (suffixes-Reads depth p.1 c p.0) l vs us2 vs2 behind more h e2 e3 w2))
+      (p, us, vs, e, w, subst (λ (z : Numbered ExprTree). (tail (levels requires depth) p.1 c p.0).whole l vs behind z) (sym same) (back_last (suffixes-Reads requires depth p.1 c p.0) l vs us2 vs2 behind more h e2 e3 w2))
 
-  front_to : (l : ℕ) (ts : List Piece) → (postfix (levels depth) c n).front l ts → (printed_postfix depth c n).front l ts
+  front_to : (l : ℕ) (ts : List Piece) → (postfix (levels requires depth) c n).front l ts → (printed_postfix requires depth c n).front l ts
   unfolding postfix printed_postfix
   front_to l ts (inl k) = inl k
-  front_to l ts (inr (p, us, vs, e, w, k)) = inr (p, us, vs, e, w, inl ((suffixes-Reads depth p.1 c p.0).begun l vs k))
+  front_to l ts (inr (p, us, vs, e, w, k)) = inr (p, us, vs, e, w, inl ((suffixes-Reads requires depth p.1 c p.0).begun l vs k))
 
-  front_from : (l : ℕ) (ts : List Piece) → (printed_postfix depth c n).front l ts → (postfix (levels depth) c n).front l ts
+  front_from : (l : ℕ) (ts : List Piece) → (printed_postfix requires depth c n).front l ts → (postfix (levels requires depth) c n).front l ts
   unfolding postfix printed_postfix
   front_from l ts (inl k) = inl k
-  front_from l ts (inr (p, us, vs, e, w, inl k)) = inr (p, us, vs, e, w, (suffixes-Reads depth p.1 c p.0).begun_back l vs k)
-  front_from l ts (inr (p, us, vs, e, w, inr (more, us2, vs2, e2, w2, e3))) = inr (p, us, vs, e, w, begun_whole (suffixes-Reads depth p.1 c p.0) l vs us2 vs2 more e2 w2 e3)
+  front_from l ts (inr (p, us, vs, e, w, inl k)) = inr (p, us, vs, e, w, (suffixes-Reads requires depth p.1 c p.0).begun_back l vs k)
+  front_from l ts (inr (p, us, vs, e, w, inr (more, us2, vs2, e2, w2, e3))) = inr (p, us, vs, e, w, begun_whole (suffixes-Reads requires depth p.1 c p.0) l vs us2 vs2 more e2 w2 e3)
 
-  pub postfix_printed : IsAsPrinted (postfix (levels depth) c n) behind_postfix (printed_postfix depth c n)
+  pub postfix_printed : IsAsPrinted (postfix (levels requires depth) c n) behind_postfix (printed_postfix requires depth c n)
   postfix_printed = record {
     same_trees = λ l ts behind y h. (λ w. to_printed l ts behind y w, λ w. from_printed l ts behind y h w);
     same_beginnings = λ l ts. (λ k. front_to l ts k, λ k. front_from l ts k);

@@ -2,28 +2,29 @@
 use Rattle.std.proofs.Common.{ℕ, zero, suc, Bool, List, Option}
 use Rattle.cx_base.specs.declared.place.Place.{Place}
 use Rattle.cx_scope.specs.declared.name_kind.NameKind.{NameKind}
-use Rattle.cx_tree.specs.Trees.{Mark, ExprTree, TypeTree, CoreTree}
-use Rattle.cx_tree.specs.Statements.{ConstraintTree, AutoTree, StmtTree}
+use Rattle.cx_tree.specs.Trees.{Mark, ExprTree, TypeTree, CoreTree, ConstraintTree}
+use Rattle.cx_tree.specs.Statements.{AutoTree, StmtTree}
 use Rattle.cx_tree.specs.Declarations.{Specifiers, ParameterTree, MemberTree, TemplateParameterTree, DeclTree}
 use Rattle.cx_grammar.specs.Pieces.{Piece}
 use Rattle.cx_grammar.specs.Names.{Context}
-use Rattle.cx_grammar.specs.Types.{Numbered, Placed, Below}
-use Rattle.cx_grammar.specs.Statements.{Named, Within, condition, value_init, list_init, init, variable_behind, auto_variable_behind, constraint, auto_behind, variable_of, variable_of_auto, expr_stmt_of, core_stmt, head_stmt, word_stmt, typed_variable, constrained_auto, plain_auto, const_variable, variable, concept_stmt, expr_stmt, open_stmt, assertion, more_stmt, block, substatement, if_stmt, while_stmt, for_init, for_stmt, return_stmt, jump, empty_stmt, bare_stmt, stmt}
+use Rattle.cx_grammar.specs.Types.{Numbered, Placed, Below, Named}
+use Rattle.cx_grammar.specs.Statements.{Within, condition, value_init, list_init, init, variable_behind, auto_variable_behind, auto_behind, variable_of, variable_of_auto, expr_stmt_of, core_stmt, head_stmt, word_stmt, typed_variable, constrained_auto, plain_auto, const_variable, variable, concept_stmt, expr_stmt, open_stmt, assertion, more_stmt, block, substatement, if_stmt, while_stmt, for_init, for_stmt, return_stmt, jump, empty_stmt, bare_stmt, stmt}
 use Rattle.cx_grammar.specs.Declarations.{unit_levels, auto_parameter, const_parameter, parameter, more_parameter, void_parameters, function_body, function_behind, constant_behind, alias, variable_or_function, static_member, field_or_function, struct_member, more_member, struct_body, struct_behind, struct, type_parameter, constrained_parameter, value_parameter, template_parameter, more_template_parameter, concept, specialisation, templated_struct, templated_function, templated, template, decl, more_decl, unit}
 use Rattle.cx_grammar.proofs.Alone.{Filled, token-Filled, first-Filled, second-Filled, when-Filled, given-Filled, closed-Filled}
-use Rattle.cx_grammar.proofs.AloneTypes.{BelowAlone, type_id-Filled, scalar_core-Filled}
-use Rattle.cx_grammar.proofs.AloneExpressions.{levels-Alone, expr-Filled, behind_core-Filled, argument_list-Filled, behind_head-Filled}
+use Rattle.cx_grammar.proofs.AloneTypes.{argument_list-Filled, BelowAlone, type_id-Filled, scalar_core-Filled}
+use Rattle.cx_grammar.proofs.AloneExpressions.{levels-Alone, expr-Filled, behind_core-Filled, behind_head-Filled}
+use Rattle.cx_grammar.proofs.Requires.{constraint-Filled}
 
 -- what a level has
-pub record WithinFilled (b : Within) : Type 0 where
-  pub base : BelowAlone b.base
+pub record WithinFilled (requires : Bool) (b : Within) : Type 0 where
+  pub base : BelowAlone requires b.base
   pub stmt : (c : Context) (n : ℕ) → Filled (b.stmt c n)
   pub bare : (c : Context) (n : ℕ) → Filled (b.bare c n)
   pub decl : (c : Context) (n : ℕ) → Filled (b.decl c n)
 
 ruleset filling = (token-Filled, first-Filled, second-Filled, when-Filled, given-Filled)
 
-module _ {b : Below} (h : BelowAlone b) where
+module _ {requires : Bool} {b : Below} (h : BelowAlone requires b) where
   pub condition-Filled : (c : Context) (n : ℕ) → Filled (condition b c n)
   unfolding condition
   condition-Filled c n = search filling depth 6
@@ -48,15 +49,11 @@ module _ {b : Below} (h : BelowAlone b) where
   unfolding auto_variable_behind
   auto_variable_behind-Filled c is_constexpr of = search filling depth 6
 
-  pub constraint-Filled : (c : Context) (n : ℕ) → Filled (constraint b c n)
-  unfolding constraint
-  constraint-Filled c n = search filling depth 6
-
 pub auto_behind-Filled : (c : Context) (at : Option Place) (before : Bool) (constrained : Option ConstraintTree) (n : ℕ) → Filled (auto_behind c at before constrained n)
 unfolding auto_behind
 auto_behind-Filled c at before constrained n = search filling depth 6
 
-module _ {b : Below} (h : BelowAlone b) where
+module _ {requires : Bool} {b : Below} (h : BelowAlone requires b) where
   pub variable_of-Filled : (c : Context) (is_constexpr : Bool) (of : Numbered TypeTree) → Filled (variable_of b c is_constexpr of)
   unfolding variable_of
   variable_of-Filled c is_constexpr of = search (filling, variable_behind-Filled) depth 5
@@ -117,7 +114,7 @@ module _ {b : Below} (h : BelowAlone b) where
   unfolding assertion
   assertion-Filled c n = search filling depth 12
 
-module _ {b : Within} (h : WithinFilled b) where
+module _ {requires : Bool} {b : Within} (h : WithinFilled requires b) where
   pub more_stmt-Filled : (c : Context) (so_far : Named (List StmtTree)) → Filled (more_stmt b c so_far)
   more_stmt-Filled c so_far = search (filling, h.stmt) depth 5
 
@@ -137,17 +134,17 @@ module _ {b : Within} (h : WithinFilled b) where
   unfolding while_stmt
   while_stmt-Filled c n = search filling depth 6
 
-module _ {b : Below} (h : BelowAlone b) where
+module _ {requires : Bool} {b : Below} (h : BelowAlone requires b) where
   pub for_init-Filled : (c : Context) (n : ℕ) → Filled (for_init b c n)
   unfolding for_init
   for_init-Filled c n = search (filling, open_stmt-Filled) depth 6
 
-module _ {b : Within} (h : WithinFilled b) where
+module _ {requires : Bool} {b : Within} (h : WithinFilled requires b) where
   pub for_stmt-Filled : (c : Context) (n : ℕ) → Filled (for_stmt b c n)
   unfolding for_stmt
   for_stmt-Filled c n = search filling depth 8
 
-module _ {b : Below} (h : BelowAlone b) where
+module _ {requires : Bool} {b : Below} (h : BelowAlone requires b) where
   pub return_stmt-Filled : (c : Context) (n : ℕ) → Filled (return_stmt b c n)
   unfolding return_stmt
   return_stmt-Filled c n = search filling depth 6
@@ -160,7 +157,7 @@ pub empty_stmt-Filled : (c : Context) (n : ℕ) → Filled (empty_stmt c n)
 unfolding empty_stmt
 empty_stmt-Filled c n = search filling depth 5
 
-module _ {b : Within} (h : WithinFilled b) where
+module _ {requires : Bool} {b : Within} (h : WithinFilled requires b) where
   pub bare_stmt-Filled : (c : Context) (n : ℕ) → Filled (bare_stmt b c n)
   unfolding bare_stmt
   bare_stmt-Filled c n = search (filling, open_stmt-Filled h.base, assertion-Filled h.base, block-Filled, if_stmt-Filled, while_stmt-Filled, for_stmt-Filled, return_stmt-Filled h.base, jump-Filled, empty_stmt-Filled) depth 13
@@ -173,7 +170,7 @@ pub auto_parameter-Filled : (c : Context) (at : Option Place) (before : Bool) (c
 unfolding auto_parameter
 auto_parameter-Filled c at before constrained n = search (filling, auto_behind-Filled) depth 5
 
-module _ {b : Below} (h : BelowAlone b) where
+module _ {requires : Bool} {b : Below} (h : BelowAlone requires b) where
   pub const_parameter-Filled : (autos : Bool) (c : Context) (n : ℕ) → Filled (const_parameter autos b c n)
   unfolding const_parameter
   const_parameter-Filled autos c n = search filling depth 9
@@ -189,7 +186,7 @@ module _ {b : Below} (h : BelowAlone b) where
   unfolding void_parameters
   void_parameters-Filled autos c n = search filling depth 7
 
-module _ {b : Within} (h : WithinFilled b) where
+module _ {requires : Bool} {b : Within} (h : WithinFilled requires b) where
   pub function_body-Filled : (c : Context) (n : ℕ) → Filled (function_body b c n)
   unfolding function_body
   function_body-Filled c n = search (filling, block-Filled) depth 6
@@ -198,7 +195,7 @@ module _ {b : Within} (h : WithinFilled b) where
   unfolding function_behind
   function_behind-Filled is_member templated c s result name = search filling depth 9
 
-module _ {b : Below} (h : BelowAlone b) where
+module _ {requires : Bool} {b : Below} (h : BelowAlone requires b) where
   pub constant_behind-Filled : (c : Context) (s : Specifiers) (of : Numbered TypeTree) (name : Piece) → Filled (constant_behind b c s of name)
   unfolding constant_behind
   constant_behind-Filled c s of name = search filling depth 5
@@ -207,17 +204,17 @@ module _ {b : Below} (h : BelowAlone b) where
   unfolding alias
   alias-Filled c n = search filling depth 8
 
-module _ {b : Within} (h : WithinFilled b) where
+module _ {requires : Bool} {b : Within} (h : WithinFilled requires b) where
   pub variable_or_function-Filled : (c : Context) (n : ℕ) → Filled (variable_or_function b c n)
   unfolding variable_or_function
   variable_or_function-Filled c n = search (filling, type_id-Filled h.base) depth 9
 
-module _ {b : Below} (h : BelowAlone b) where
+module _ {requires : Bool} {b : Below} (h : BelowAlone requires b) where
   pub static_member-Filled : (c : Context) (n : ℕ) → Filled (static_member b c n)
   unfolding static_member
   static_member-Filled c n = search filling depth 10
 
-module _ {b : Within} (h : WithinFilled b) where
+module _ {requires : Bool} {b : Within} (h : WithinFilled requires b) where
   pub field_or_function-Filled : (templated : Bool) (c : Context) (n : ℕ) → Filled (field_or_function templated b c n)
   unfolding field_or_function
   field_or_function-Filled templated c n = search (filling, type_id-Filled h.base) depth 9
@@ -241,7 +238,7 @@ module _ {b : Within} (h : WithinFilled b) where
   unfolding struct
   struct-Filled c n = search filling depth 6
 
-module _ {b : Below} (h : BelowAlone b) where
+module _ {requires : Bool} {b : Below} (h : BelowAlone requires b) where
   pub type_parameter-Filled : (c : Context) (n : ℕ) → Filled (type_parameter b c n)
   unfolding type_parameter
   type_parameter-Filled c n = search filling depth 6
@@ -265,7 +262,7 @@ module _ {b : Below} (h : BelowAlone b) where
   unfolding concept
   concept-Filled c n = search filling depth 9
 
-module _ {b : Within} (h : WithinFilled b) where
+module _ {requires : Bool} {b : Within} (h : WithinFilled requires b) where
   pub specialisation-Filled : (full : Bool) (c : Context) (name : Piece) (n : ℕ) → Filled (specialisation full b c name n)
   unfolding specialisation
   specialisation-Filled full c name n = search (filling, argument_list-Filled h.base) depth 5
@@ -297,7 +294,7 @@ module _ {b : Within} (h : WithinFilled b) where
   unfolding unit
   unit-Filled = search filling depth 5
 
-pub levels-Filled : (n : ℕ) → WithinFilled (unit_levels n)
+pub levels-Filled : {requires : Bool} (n : ℕ) → WithinFilled requires (unit_levels requires n)
 unfolding unit_levels
 levels-Filled zero = record { base = levels-Alone 0; stmt = λ c n. closed-Filled; bare = λ c n. closed-Filled; decl = λ c n. closed-Filled }
 levels-Filled (suc n) = record {

@@ -2,14 +2,14 @@
 use Rattle.std.proofs.Common.{◌≤◌, ℕ, zero, suc, ◌+◌, Bool, List, Option, arith}
 use Rattle.cx_base.specs.declared.place.Place.{Place}
 use Rattle.cx_scope.specs.declared.name_kind.NameKind.{NameKind}
-use Rattle.cx_tree.specs.Trees.{Mark, ExprTree, TypeTree, CoreTree}
-use Rattle.cx_tree.specs.Statements.{ConstraintTree, AutoTree, WrittenType, StmtTree}
+use Rattle.cx_tree.specs.Trees.{Mark, ExprTree, TypeTree, CoreTree, ConstraintTree}
+use Rattle.cx_tree.specs.Statements.{AutoTree, WrittenType, StmtTree}
 use Rattle.cx_tree.specs.Declarations.{Specifiers, ParameterTree, MemberTree, TemplateParameterTree, DeclTree}
 use Rattle.cx_grammar.specs.Pieces.{Piece}
 use Rattle.cx_grammar.specs.Production.{Production}
 use Rattle.cx_grammar.specs.Names.{Context}
-use Rattle.cx_grammar.specs.Types.{Numbered, Placed, Below}
-use Rattle.cx_grammar.specs.Statements.{Named, Within, condition, value_init, list_init, init, variable_behind, auto_variable_behind, constraint, const_behind_auto, reference_behind_auto, auto_behind, variable_of, variable_of_auto, expr_stmt_of, core_stmt, head_stmt, word_stmt, typed_variable, constrained_auto, plain_auto, const_variable, variable, concept_stmt, expr_stmt, open_stmt, assertion, more_stmt, block, substatement, alternative, if_stmt, while_stmt, maybe_expr, for_init, for_head, for_stmt, return_stmt, jump, empty_stmt, closed_stmt, bare_stmt, stmt}
+use Rattle.cx_grammar.specs.Types.{Numbered, Placed, Below, Named}
+use Rattle.cx_grammar.specs.Statements.{Within, condition, value_init, list_init, init, variable_behind, auto_variable_behind, const_behind_auto, reference_behind_auto, auto_behind, variable_of, variable_of_auto, expr_stmt_of, core_stmt, head_stmt, word_stmt, typed_variable, constrained_auto, plain_auto, const_variable, variable, concept_stmt, expr_stmt, open_stmt, assertion, more_stmt, block, substatement, alternative, if_stmt, while_stmt, maybe_expr, for_init, for_head, for_stmt, return_stmt, jump, empty_stmt, closed_stmt, bare_stmt, stmt}
 use Rattle.cx_grammar.specs.Declarations.{unit_levels, is_free, with_specifier, specifiers_from, specifiers, parameter_behind, typed_parameter, auto_parameter, const_parameter, parameter, more_parameter, parameters_behind, void_parameters, parameters, trailing, maybe_const_member, function_body, function_behind, constant_behind, alias, variable_or_function, static_member, field_or_function, struct_member, more_member, members, struct_body, struct_behind, struct, maybe_name, default_type, default_value, type_parameter, constrained_parameter, value_parameter, template_parameter, more_template_parameter, template_parameters, concept, specialisation, templated_struct, templated_function, templated, maybe_clause, template, decl, more_decl, unit}
 use Rattle.cx_grammar.proofs.Combinators.{Takes, Firm, give-Firm, token-Firm, then-Firm, when-Firm, repeat-Firm}
 use Rattle.cx_grammar.proofs.Types.{BelowGrows}
@@ -18,6 +18,7 @@ use Rattle.cx_grammar.proofs.FirmTypes.{BelowFirm, Enough, rooms, firmness, argu
 use Rattle.cx_grammar.proofs.FirmExpressions.{levels-Firm, behind_core-Firm, behind_head-Firm, clause-Firm, expr-Firm, expr_behind-Firm, exprs_until-Firm, rests-Firm, tail-Firm, unary-Firm}
 use Rattle.cx_grammar.proofs.UnitFilled.{WithinFilled, levels-Filled}
 use Rattle.cx_grammar.proofs.UnitGrows.{WithinGrows, unit_levels-Grows, more_stmt-Steps, more_member-Steps, more_decl-Steps, more_parameter-Steps, more_template_parameter-Steps}
+use Rattle.cx_grammar.proofs.FirmRequires.{constraint-Firm}
 
 -- levels for a load: one more, for a statement, which is a construct of its own
 pub record More (limit n load : ℕ) : Type 0 where
@@ -43,7 +44,7 @@ pub record WithinFirm (limit n : ℕ) (b d : Within) : Type 0 where
   pub template_parameters : (c : Context) (k : ℕ) → Enough limit n c.load → Firm limit (b.template_parameters c k) (d.template_parameters c k)
   pub decl : (c : Context) (k : ℕ) → Enough limit n c.load → Firm limit (b.decl c k) (d.decl c k)
 
-module _ {limit n : ℕ} {b d : Below} (g : BelowGrows b d) (f : BelowFirm limit n b d) where
+module _ {requires : Bool} {limit n : ℕ} {b d : Below} (g : BelowGrows requires b d) (f : BelowFirm limit n b d) where
   pub condition-Firm : (c : Context) (m : ℕ) → Enough limit (suc n) c.load → Firm limit (condition b c m) (condition d c m)
   unfolding condition
   condition-Firm c m k = search (firmness, f.expr, rooms) depth 8
@@ -68,10 +69,6 @@ module _ {limit n : ℕ} {b d : Below} (g : BelowGrows b d) (f : BelowFirm limit
   unfolding auto_variable_behind
   auto_variable_behind-Firm c is_constexpr of k = search (firmness, value_init-Firm, rooms) depth 8
 
-  pub constraint-Firm : (c : Context) (m : ℕ) → Enough limit (suc n) c.load → Firm limit (constraint b c m) (constraint d c m)
-  unfolding constraint
-  constraint-Firm c m k = search (firmness, argument_list-Firm, rooms) depth 8
-
 module _ (limit : ℕ) where
   pub const_behind_auto-Firm : (c : Context) (before : Bool) → Firm limit (const_behind_auto c before) (const_behind_auto c before)
   unfolding const_behind_auto
@@ -85,7 +82,7 @@ module _ (limit : ℕ) where
   unfolding auto_behind
   auto_behind-Firm c at before constrained n = search (firmness, const_behind_auto-Firm, reference_behind_auto-Firm) depth 8
 
-module _ {limit n : ℕ} {b d : Below} (g : BelowGrows b d) (f : BelowFirm limit n b d) where
+module _ {requires : Bool} {limit n : ℕ} {b d : Below} (g : BelowGrows requires b d) (f : BelowFirm limit n b d) where
   pub variable_of-Firm : (c : Context) (is_constexpr : Bool) (of : Numbered TypeTree) → Enough limit (suc n) c.load → Firm limit (variable_of b c is_constexpr of) (variable_of d c is_constexpr of)
   unfolding variable_of
   variable_of-Firm c is_constexpr of k = search (firmness, variable_behind-Firm, rooms) depth 7
@@ -146,7 +143,7 @@ module _ {limit n : ℕ} {b d : Below} (g : BelowGrows b d) (f : BelowFirm limit
   unfolding assertion
   assertion-Firm c m k = search (firmness, f.expr, rooms) depth 14
 
-module _ {limit n : ℕ} {b d : Within} (g : WithinGrows b d) (low : WithinFilled b) (high : WithinFilled d) (f : WithinFirm limit n b d) where
+module _ {requires : Bool} {limit n : ℕ} {b d : Within} (g : WithinGrows requires b d) (low : WithinFilled requires b) (high : WithinFilled requires d) (f : WithinFirm limit n b d) where
   more_stmt-Takes : (c : Context) (so_far : Named (List StmtTree)) → Takes (more_stmt b c so_far)
   more_stmt-Takes c so_far = (more_stmt-Steps g low high c so_far).low
 
@@ -173,7 +170,7 @@ module _ {limit n : ℕ} {b d : Within} (g : WithinGrows b d) (low : WithinFille
   unfolding while_stmt
   while_stmt-Firm c m k = search (firmness, condition-Firm g.base f.base, substatement-Firm, rooms, unit_rooms) depth 8
 
-module _ {limit n : ℕ} {b d : Below} (g : BelowGrows b d) (f : BelowFirm limit n b d) where
+module _ {requires : Bool} {limit n : ℕ} {b d : Below} (g : BelowGrows requires b d) (f : BelowFirm limit n b d) where
   pub maybe_expr-Firm : (behind : List ℕ) (c : Context) (m : ℕ) → Enough limit (suc n) c.load → Firm limit (maybe_expr behind b c m) (maybe_expr behind d c m)
   unfolding maybe_expr
   maybe_expr-Firm behind c m k = search (firmness, expr-Firm, rooms) depth 7
@@ -186,12 +183,12 @@ module _ {limit n : ℕ} {b d : Below} (g : BelowGrows b d) (f : BelowFirm limit
   unfolding for_head
   for_head-Firm c m k = search (firmness, maybe_expr-Firm, for_init-Firm, rooms) depth 9
 
-module _ {limit n : ℕ} {b d : Within} (g : WithinGrows b d) (low : WithinFilled b) (high : WithinFilled d) (f : WithinFirm limit n b d) where
+module _ {requires : Bool} {limit n : ℕ} {b d : Within} (g : WithinGrows requires b d) (low : WithinFilled requires b) (high : WithinFilled requires d) (f : WithinFirm limit n b d) where
   pub for_stmt-Firm : (c : Context) (m : ℕ) → Enough limit (suc n) c.load → Firm limit (for_stmt b c m) (for_stmt d c m)
   unfolding for_stmt
   for_stmt-Firm c m k = search (firmness, substatement-Firm, f.head, rooms, unit_rooms) depth 10
 
-module _ {limit n : ℕ} {b d : Below} (g : BelowGrows b d) (f : BelowFirm limit n b d) where
+module _ {requires : Bool} {limit n : ℕ} {b d : Below} (g : BelowGrows requires b d) (f : BelowFirm limit n b d) where
   pub return_stmt-Firm : (c : Context) (m : ℕ) → Enough limit (suc n) c.load → Firm limit (return_stmt b c m) (return_stmt d c m)
   unfolding return_stmt
   return_stmt-Firm c m k = search (firmness, maybe_expr-Firm, rooms) depth 8
@@ -209,7 +206,7 @@ module _ (limit : ℕ) where
   pub closed_stmt-Firm : (c : Context) {p q : Production (Numbered StmtTree)} → Firm limit p q → Firm limit (closed_stmt c p) (closed_stmt c q)
   closed_stmt-Firm c h = search firmness
 
-module _ {limit n : ℕ} {b d : Within} (g : WithinGrows b d) (low : WithinFilled b) (high : WithinFilled d) (f : WithinFirm limit n b d) where
+module _ {requires : Bool} {limit n : ℕ} {b d : Within} (g : WithinGrows requires b d) (low : WithinFilled requires b) (high : WithinFilled requires d) (f : WithinFirm limit n b d) where
   pub bare_stmt-Firm : (c : Context) (m : ℕ) → Enough limit (suc n) c.load → Firm limit (bare_stmt b c m) (bare_stmt d c m)
   unfolding bare_stmt
   bare_stmt-Firm c m k = search (firmness, open_stmt-Firm g.base f.base, assertion-Firm g.base f.base, block-Firm, if_stmt-Firm, while_stmt-Firm, for_stmt-Firm, return_stmt-Firm g.base f.base, jump-Firm, empty_stmt-Firm, closed_stmt-Firm, rooms, unit_rooms) depth 15
@@ -239,7 +236,7 @@ module _ (limit : ℕ) where
   unfolding auto_parameter
   auto_parameter-Firm c at before constrained n = search (firmness, auto_behind-Firm, parameter_behind-Firm) depth 7
 
-module _ {limit n : ℕ} {b d : Below} (g : BelowGrows b d) (f : BelowFirm limit n b d) where
+module _ {requires : Bool} {limit n : ℕ} {b d : Below} (g : BelowGrows requires b d) (f : BelowFirm limit n b d) where
   pub const_parameter-Firm : (autos : Bool) (c : Context) (m : ℕ) → Enough limit (suc n) c.load → Firm limit (const_parameter autos b c m) (const_parameter autos d c m)
   unfolding const_parameter
   const_parameter-Firm autos c m k = search (firmness, type_behind-Firm, constraint-Firm, typed_parameter-Firm, auto_parameter-Firm, f.core, rooms) depth 11
@@ -275,7 +272,7 @@ module _ (limit : ℕ) where
   unfolding maybe_const_member
   maybe_const_member-Firm is_member c = search firmness depth 7
 
-module _ {limit n : ℕ} {b d : Within} (g : WithinGrows b d) (low : WithinFilled b) (high : WithinFilled d) (f : WithinFirm limit n b d) where
+module _ {requires : Bool} {limit n : ℕ} {b d : Within} (g : WithinGrows requires b d) (low : WithinFilled requires b) (high : WithinFilled requires d) (f : WithinFirm limit n b d) where
   pub function_body-Firm : (c : Context) (m : ℕ) → Enough limit (suc n) c.load → Firm limit (function_body b c m) (function_body d c m)
   unfolding function_body
   function_body-Firm c m k = search (firmness, block-Firm, rooms, unit_rooms) depth 8
@@ -284,7 +281,7 @@ module _ {limit n : ℕ} {b d : Within} (g : WithinGrows b d) (low : WithinFille
   unfolding function_behind
   function_behind-Firm is_member templated c s result name k = search (firmness, trailing-Firm g.base f.base, maybe_const_member-Firm, function_body-Firm, f.parameters, rooms, unit_rooms) depth 11
 
-module _ {limit n : ℕ} {b d : Below} (g : BelowGrows b d) (f : BelowFirm limit n b d) where
+module _ {requires : Bool} {limit n : ℕ} {b d : Below} (g : BelowGrows requires b d) (f : BelowFirm limit n b d) where
   pub constant_behind-Firm : (c : Context) (s : Specifiers) (of : Numbered TypeTree) (name : Piece) → Enough limit (suc n) c.load → Firm limit (constant_behind b c s of name) (constant_behind d c s of name)
   unfolding constant_behind
   constant_behind-Firm c s of name k = search (firmness, init-Firm, rooms) depth 7
@@ -293,17 +290,17 @@ module _ {limit n : ℕ} {b d : Below} (g : BelowGrows b d) (f : BelowFirm limit
   unfolding alias
   alias-Firm c m k = search (firmness, type_id-Firm, rooms) depth 10
 
-module _ {limit n : ℕ} {b d : Within} (g : WithinGrows b d) (low : WithinFilled b) (high : WithinFilled d) (f : WithinFirm limit n b d) where
+module _ {requires : Bool} {limit n : ℕ} {b d : Within} (g : WithinGrows requires b d) (low : WithinFilled requires b) (high : WithinFilled requires d) (f : WithinFirm limit n b d) where
   pub variable_or_function-Firm : (c : Context) (m : ℕ) → Enough limit (suc n) c.load → Firm limit (variable_or_function b c m) (variable_or_function d c m)
   unfolding variable_or_function
   variable_or_function-Firm c m k = search (firmness, type_id-Firm g.base f.base, specifiers-Firm, function_behind-Firm, constant_behind-Firm g.base f.base, rooms, unit_rooms) depth 11
 
-module _ {limit n : ℕ} {b d : Below} (g : BelowGrows b d) (f : BelowFirm limit n b d) where
+module _ {requires : Bool} {limit n : ℕ} {b d : Below} (g : BelowGrows requires b d) (f : BelowFirm limit n b d) where
   pub static_member-Firm : (c : Context) (m : ℕ) → Enough limit (suc n) c.load → Firm limit (static_member b c m) (static_member d c m)
   unfolding static_member
   static_member-Firm c m k = search (firmness, type_id-Firm, specifiers-Firm, constant_behind-Firm, rooms) depth 12
 
-module _ {limit n : ℕ} {b d : Within} (g : WithinGrows b d) (low : WithinFilled b) (high : WithinFilled d) (f : WithinFirm limit n b d) where
+module _ {requires : Bool} {limit n : ℕ} {b d : Within} (g : WithinGrows requires b d) (low : WithinFilled requires b) (high : WithinFilled requires d) (f : WithinFirm limit n b d) where
   pub field_or_function-Firm : (templated : Bool) (c : Context) (m : ℕ) → Enough limit (suc n) c.load → Firm limit (field_or_function templated b c m) (field_or_function templated d c m)
   unfolding field_or_function
   field_or_function-Firm templated c m k = search (firmness, type_id-Firm g.base f.base, specifiers-Firm, function_behind-Firm, rooms, unit_rooms) depth 11
@@ -339,7 +336,7 @@ module _ (limit : ℕ) where
   unfolding maybe_name
   maybe_name-Firm c = search firmness depth 7
 
-module _ {limit n : ℕ} {b d : Below} (g : BelowGrows b d) (f : BelowFirm limit n b d) where
+module _ {requires : Bool} {limit n : ℕ} {b d : Below} (g : BelowGrows requires b d) (f : BelowFirm limit n b d) where
   pub default_type-Firm : (c : Context) (m : ℕ) → Enough limit (suc n) c.load → Firm limit (default_type b c m) (default_type d c m)
   unfolding default_type
   default_type-Firm c m k = search (firmness, type_id-Firm, rooms) depth 8
@@ -378,7 +375,7 @@ module _ {limit n : ℕ} {b d : Below} (g : BelowGrows b d) (f : BelowFirm limit
   unfolding concept
   concept-Firm c m k = search (firmness, unary-Firm, rests-Firm, rooms) depth 11
 
-module _ {limit n : ℕ} {b d : Within} (g : WithinGrows b d) (low : WithinFilled b) (high : WithinFilled d) (f : WithinFirm limit n b d) where
+module _ {requires : Bool} {limit n : ℕ} {b d : Within} (g : WithinGrows requires b d) (low : WithinFilled requires b) (high : WithinFilled requires d) (f : WithinFirm limit n b d) where
   pub specialisation-Firm : (full : Bool) (c : Context) (name : Piece) (m : ℕ) → Enough limit (suc n) c.load → Firm limit (specialisation full b c name m) (specialisation full d c name m)
   unfolding specialisation
   specialisation-Firm full c name m k = search (firmness, argument_list-Firm g.base f.base, struct_body-Firm, rooms, unit_rooms) depth 7
@@ -395,12 +392,12 @@ module _ {limit n : ℕ} {b d : Within} (g : WithinGrows b d) (low : WithinFille
   unfolding templated
   templated-Firm ps has_clause c m k = search (firmness, concept-Firm g.base f.base, templated_struct-Firm, templated_function-Firm, rooms, unit_rooms) depth 7
 
-module _ {limit n : ℕ} {b d : Below} (g : BelowGrows b d) (f : BelowFirm limit n b d) where
+module _ {requires : Bool} {limit n : ℕ} {b d : Below} (g : BelowGrows requires b d) (f : BelowFirm limit n b d) where
   pub maybe_clause-Firm : (c : Context) (m : ℕ) → Enough limit (suc n) c.load → Firm limit (maybe_clause b c m) (maybe_clause d c m)
   unfolding maybe_clause
   maybe_clause-Firm c m k = search (firmness, clause-Firm, rooms) depth 8
 
-module _ {limit n : ℕ} {b d : Within} (g : WithinGrows b d) (low : WithinFilled b) (high : WithinFilled d) (f : WithinFirm limit n b d) where
+module _ {requires : Bool} {limit n : ℕ} {b d : Within} (g : WithinGrows requires b d) (low : WithinFilled requires b) (high : WithinFilled requires d) (f : WithinFirm limit n b d) where
   pub template-Firm : (c : Context) (m : ℕ) → Enough limit (suc n) c.load → Firm limit (template b c m) (template d c m)
   unfolding template
   template-Firm c m k = search (firmness, templated-Firm, maybe_clause-Firm g.base f.base, f.template_parameters, rooms, unit_rooms) depth 11
@@ -426,10 +423,10 @@ module _ (limit : ℕ) where
   no_more : (load : ℕ) → More limit 0 load → ⊥
   no_more load k = omega (arith, k.more)
 
-  no_unit-Firm : WithinFirm limit 0 (unit_levels 0) (unit_levels 1)
+  no_unit-Firm : (requires : Bool) → WithinFirm limit 0 (unit_levels requires 0) (unit_levels requires 1)
   unfolding unit_levels
-  no_unit-Firm = record {
-    base = levels-Firm limit 0;
+  no_unit-Firm requires = record {
+    base = levels-Firm limit requires 0;
     stmt = λ c m k. absurd (no_more c.load k);
     bare = λ c m k. absurd (no_unit_room c.load k);
     head = λ c m k. absurd (no_unit_room c.load k);
@@ -439,19 +436,19 @@ module _ (limit : ℕ) where
     decl = λ c m k. absurd (no_unit_room c.load k);
   }
 
-  above_unit-Firm : (n : ℕ) → WithinFirm limit n (unit_levels n) (unit_levels (suc n)) → WithinFirm limit (suc n) (unit_levels (suc n)) (unit_levels (suc (suc n)))
+  above_unit-Firm : (requires : Bool) (n : ℕ) → WithinFirm limit n (unit_levels requires n) (unit_levels requires (suc n)) → WithinFirm limit (suc n) (unit_levels requires (suc n)) (unit_levels requires (suc (suc n)))
   unfolding unit_levels
-  above_unit-Firm n f = record {
-    base = levels-Firm limit (suc n);
+  above_unit-Firm requires n f = record {
+    base = levels-Firm limit requires (suc n);
     stmt = λ c m k. stmt-Firm (unit_levels-Grows n) (levels-Filled n) (levels-Filled (suc n)) f c m k;
     bare = λ c m k. bare_stmt-Firm (unit_levels-Grows n) (levels-Filled n) (levels-Filled (suc n)) f c m k;
-    head = λ c m k. for_head-Firm (levels-Grows n) (levels-Firm limit n) c m k;
-    parameters = λ autos c m k. parameters-Firm (levels-Grows n) (levels-Firm limit n) autos c m k;
+    head = λ c m k. for_head-Firm (levels-Grows n) (levels-Firm limit requires n) c m k;
+    parameters = λ autos c m k. parameters-Firm (levels-Grows n) (levels-Firm limit requires n) autos c m k;
     members = λ templated c m k. members-Firm (unit_levels-Grows n) (levels-Filled n) (levels-Filled (suc n)) f templated c m k;
-    template_parameters = λ c m k. template_parameters-Firm (levels-Grows n) (levels-Firm limit n) c m k;
+    template_parameters = λ c m k. template_parameters-Firm (levels-Grows n) (levels-Firm limit requires n) c m k;
     decl = λ c m k. decl-Firm (unit_levels-Grows n) (levels-Filled n) (levels-Filled (suc n)) f c m k;
   }
 
-  pub unit_levels-Firm : (n : ℕ) → WithinFirm limit n (unit_levels n) (unit_levels (suc n))
-  unit_levels-Firm zero = no_unit-Firm
-  unit_levels-Firm (suc n) = above_unit-Firm n (unit_levels-Firm n)
+  pub unit_levels-Firm : (requires : Bool) (n : ℕ) → WithinFirm limit n (unit_levels requires n) (unit_levels requires (suc n))
+  unit_levels-Firm requires zero = no_unit-Firm requires
+  unit_levels-Firm requires (suc n) = above_unit-Firm requires n (unit_levels-Firm requires n)

@@ -8,16 +8,17 @@ use Rattle.cx_lexer.specs.declared.token.TokenKind.TheVariants as kind
 use Rattle.cx_scope.specs.declared.name_kind.NameKind.{NameKind}
 use Rattle.cx_scope.specs.declared.name_kind.NameKind.TheVariants as names
 use Rattle.cx_scope.specs.Frames.{Frames, noted, entered}
-use Rattle.cx_tree.specs.Trees.{ExprTree, TypeTree, OfCore, CoreTree, ScalarTree, VoidTree, arguments}
-use Rattle.cx_tree.specs.Statements.{ConstraintTree, WrittenType, OfType, OfAuto, StmtTree}
+use Rattle.cx_tree.specs.Trees.{ExprTree, TypeTree, ConstraintTree, CoreTree, ScalarTree, VoidTree, arguments}
+use Rattle.cx_tree.specs.Statements.{WrittenType, OfType, OfAuto, StmtTree}
 use Rattle.cx_tree.specs.Declarations.{Specifiers, ParameterTree, FunctionTree, AliasTree, ConstantTree, MemberTree, EmptyMember, AliasMember, FieldMember, ConstantMember, FunctionMember, StructTree, TemplateParameterTree, TypeParameter, ConstrainedParameter, ValueParameter, TemplatedTree, FunctionTemplate, StructTemplate, ConceptDefinition, Specialisation, DeclTree, EmptyDecl, AssertDecl, AliasDecl, ConstantDecl, FunctionDecl, StructDecl, TemplateDecl}
 use Rattle.cx_grammar.specs.Pieces.{Piece}
 use Rattle.cx_grammar.specs.Production.{Production, give, ◌>>=◌, token, when, given, repeat, closed}
 use Rattle.cx_grammar.specs.Words.{word, punct, any_name}
-use Rattle.cx_grammar.specs.Names.{Context, deeper, inside, listed, concept_name, class_name}
-use Rattle.cx_grammar.specs.Types.{Numbered, Below, numbered, argument_list, closes, type_id, type_behind, scalar_core}
+use Rattle.cx_grammar.specs.Names.{Context, deeper, inside, listed, with_names, concept_name, class_name}
+use Rattle.cx_grammar.specs.Types.{Numbered, Named, Below, numbered, type_place, argument_list, closes, type_id, type_behind, scalar_core}
 use Rattle.cx_grammar.specs.Expressions.{expr, rests, unary, clause, levels}
-use Rattle.cx_grammar.specs.Statements.{Named, Within, with_names, constraint, auto_behind, assertion, init, block, stmt, bare_stmt, for_head}
+use Rattle.cx_grammar.specs.Requires.{constraint, is_not_closing}
+use Rattle.cx_grammar.specs.Statements.{Within, auto_behind, assertion, init, block, stmt, bare_stmt, for_head}
 
 -- ---- specifiers: each at most once
 
@@ -59,9 +60,6 @@ parameter_behind c at of = when any_name
       name ← token c.load any_name
       give (record { mark = numbered of.1 name.token.at; type = of.0; name = Some name.token.text }, of.1 + 1, noted c.names name.token.text names.Value))
     (give (record { mark = numbered of.1 at; type = of.0; name = None }, of.1 + 1, c.names))
-
-abbrev pub type_place : TypeTree → Place
-type_place (OfCore m constant core reference) = m.at
 
 unfoldable pub typed_parameter : Context → Numbered TypeTree → Production (Named ParameterTree)
 typed_parameter c of = parameter_behind c (type_place of.0) (OfType of.0, of.1)
@@ -261,9 +259,6 @@ struct_member templated b c n =
     (when (word (codes "using")) (do a ← alias b.base c n; give (AliasMember a.0, a.1, a.2))
     (when (word (codes "static")) (static_member b.base c n)
     (field_or_function templated b c n)))
-
-abbrev pub is_not_closing : Piece → Bool
-is_not_closing p = not (punct (codes "}") p)
 
 abbrev pub more_member : Bool → Within → Context → Named (List MemberTree) → Production (Named (List MemberTree))
 more_member templated b c so_far = do
@@ -483,10 +478,10 @@ decl b c n =
     (when (word (codes "template")) (template b c n)
     (variable_or_function b c n)))))
 
--- The productions whose constructs are nested so many levels deep at most.
-unfoldable pub unit_levels : ℕ → Within
-unit_levels zero = record {
-  base = levels zero;
+-- The productions whose constructs are nested so many levels deep at most, requires-expressions being read or not.
+unfoldable pub unit_levels : Bool → ℕ → Within
+unit_levels requires zero = record {
+  base = levels requires zero;
   stmt = λ c n. closed;
   bare = λ c n. closed;
   head = λ c n. closed;
@@ -495,15 +490,15 @@ unit_levels zero = record {
   template_parameters = λ c n. closed;
   decl = λ c n. closed;
 }
-unit_levels (suc n) = record {
-  base = levels (suc n);
-  stmt = stmt (unit_levels n);
-  bare = bare_stmt (unit_levels n);
-  head = for_head (levels n);
-  parameters = λ autos. parameters autos (levels n);
-  members = λ templated'. members templated' (unit_levels n);
-  template_parameters = template_parameters (levels n);
-  decl = decl (unit_levels n);
+unit_levels requires (suc n) = record {
+  base = levels requires (suc n);
+  stmt = stmt (unit_levels requires n);
+  bare = bare_stmt (unit_levels requires n);
+  head = for_head (levels requires n);
+  parameters = λ autos. parameters autos (levels requires n);
+  members = λ templated'. members templated' (unit_levels requires n);
+  template_parameters = template_parameters (levels requires n);
+  decl = decl (unit_levels requires n);
 }
 
 abbrev pub is_end_kind : TokenKind → Bool

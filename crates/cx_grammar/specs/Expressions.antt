@@ -15,32 +15,17 @@ use Rattle.cx_tree.specs.declared.operators.BinaryOperator.{BinaryOperator}
 use Rattle.cx_tree.specs.declared.operators.BinaryOperator.TheVariants as binary
 use Rattle.cx_tree.specs.declared.operators.AssignmentOperator.{AssignmentOperator}
 use Rattle.cx_tree.specs.declared.operators.AssignmentOperator.TheVariants as assign
-use Rattle.cx_tree.specs.Trees.{Mark, ExprTree, IntTree, BoolTree, NameTree, TemplateTree, QualifiedTree, ListTree, GroupTree, StaticCastTree, IsSameTree, OutTree, MemberTree, CallTree, PostfixTree, UnaryTree, BinaryTree, ConditionalTree, AssignmentTree, TypeTree, CoreTree, ArgumentTree, TypeArgument, ValueArgument, exprs, arguments}
+use Rattle.cx_tree.specs.Trees.{Mark, ExprTree, IntTree, BoolTree, NameTree, TemplateTree, QualifiedTree, ListTree, GroupTree, StaticCastTree, IsSameTree, OutTree, MemberTree, CallTree, PostfixTree, UnaryTree, BinaryTree, ConditionalTree, AssignmentTree, TypeTree, CoreTree, ArgumentTree, TypeArgument, ValueArgument, exprs, arguments, expr_mark}
 use Rattle.cx_grammar.specs.Pieces.{Piece}
-use Rattle.cx_grammar.specs.Production.{Production, give, ◌>>=◌, token, when, given, repeat, closed, unbuilt}
+use Rattle.cx_grammar.specs.Production.{Production, give, ◌>>=◌, token, when, given, repeat, closed}
 use Rattle.cx_grammar.specs.Words.{is_first, is_second, spelling, word, punct, any_name, literal_token, second_half}
 use Rattle.cx_grammar.specs.Names.{Context, deeper, inside, listed, type_name, class_name, template_name, concept_name}
+use Rattle.cx_grammar.specs.Requires.{maybe_requires}
 use Rattle.cx_grammar.specs.Types.{Numbered, Placed, Calling, NoCall, MayCall, MustCall, Below, numbered, argument_list, qualified_names, as_type, type_id, core, const_type, type_behind, placed_scalar, one_word, scalar_of_word, scalar_behind, closes}
 
 -- The place of an expression: that of its first token.
 abbrev pub place_of : ExprTree → Place
-place_of (IntTree m s v) = m.at
-place_of (BoolTree m v) = m.at
-place_of (NameTree m name) = m.at
-place_of (TemplateTree m name as') = m.at
-place_of (QualifiedTree m head names) = m.at
-place_of (ListTree m of es) = m.at
-place_of (GroupTree m e) = m.at
-place_of (StaticCastTree m to e) = m.at
-place_of (IsSameTree m a b) = m.at
-place_of (OutTree m e) = m.at
-place_of (MemberTree m e name) = m.at
-place_of (CallTree m e es) = m.at
-place_of (PostfixTree m o e) = m.at
-place_of (UnaryTree m o e) = m.at
-place_of (BinaryTree m o a b) = m.at
-place_of (ConditionalTree m c a b) = m.at
-place_of (AssignmentTree m o a b) = m.at
+place_of e = (expr_mark e).at
 
 -- the mark of a node of this number at the place of an expression
 abbrev pub marked : ℕ → ExprTree → Mark
@@ -185,7 +170,7 @@ worded b c n =
     (when (word (codes "false")) (with_calling NoCall (truth false (codes "false") c n))
     (when (word (codes "__is_same")) (with_calling NoCall (is_same b c n))
     (when (word (codes "__out")) (with_calling NoCall (out b c n))
-    (when (word (codes "requires")) unbuilt
+    (when (word (codes "requires")) (with_calling NoCall (maybe_requires b c n))
     (with_calling NoCall (group b c n))))))
 
 -- what stands in a requires-clause too: with template arguments a function template must be called
@@ -559,6 +544,7 @@ clause b c n = do
 
 abbrev pub above : Below → Below
 above b = record {
+  requires = b.requires;
   expr = expr b;
   unary = unary b;
   binary_rest = binary_rest b;
@@ -574,8 +560,9 @@ above b = record {
   or_rest = or_rest b;
 }
 
-abbrev pub nothing_below : Below
-nothing_below = record {
+abbrev pub nothing_below : Bool → Below
+nothing_below requires = record {
+  requires = requires;
   expr = λ c n. closed;
   unary = λ c n. closed;
   binary_rest = λ level c e. closed;
@@ -591,7 +578,11 @@ nothing_below = record {
   or_rest = λ c e. closed;
 }
 
--- The productions whose constructs are nested so many levels deep at most.
-unfoldable pub levels : ℕ → Below
-levels zero = nothing_below
-levels (suc n) = above (levels n)
+-- The parsers read no requires-expressions yet.
+abbrev pub no_requires : Bool
+no_requires = false
+
+-- The productions whose constructs are nested so many levels deep at most, requires-expressions being read or not.
+unfoldable pub levels : Bool → ℕ → Below
+levels requires zero = nothing_below requires
+levels requires (suc n) = above (levels requires n)

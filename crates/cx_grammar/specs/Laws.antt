@@ -1,5 +1,5 @@
 -- The laws of the grammar. Each is of one production at each number of levels, as that of expressions in some context.
-use Rattle.std.specs.Prelude.{◌≡◌, ◌≤◌, ◌⊎◌, ℕ, Bool, true, not, ◌||◌, codes, ◌+◌, ◌*◌, List, [], ◌∷◌, ◌++◌, length, Result, Ok, Err}
+use Rattle.std.specs.Prelude.{◌≡◌, ◌≤◌, ◌⊎◌, ℕ, Bool, true, false, not, ◌||◌, codes, ◌+◌, ◌*◌, List, [], ◌∷◌, ◌++◌, length, Result, Ok, Err}
 use Rattle.std.specs.List.{list_all}
 use Rattle.cx_base.specs.Refusal.{Refusal, Passed}
 use Rattle.cx_base.specs.declared.kind.Kind.TheVariants as fault
@@ -37,24 +37,24 @@ pub record Farthest {A : Type 0} (p : Levelled A) (ts us rest : List Piece) : Ty
   pub begins : Begins p us
   pub most : (vs ws : List Piece) → ts ≡ vs ++ ws → Begins p vs → length vs ≤ length us
 
--- The fault at a piece that does not fit. The word that begins a requires-expression is unsupported, since those are
--- not read yet.
-abbrev pub IsFaultAt : Piece → Refusal → Type 0
-IsFaultAt t r = (r ≡ misfit t.token) ⊎ ((word (codes "requires") t ≡ true) × (r ≡ refused fault.Unsupported t.token.at))
+-- The fault at a piece that does not fit. Where requires-expressions are not read, the word that begins one is
+-- unsupported.
+abbrev pub IsFaultAt : Bool → Piece → Refusal → Type 0
+IsFaultAt requires t r = (r ≡ misfit t.token) ⊎ ((requires ≡ false) × (word (codes "requires") t ≡ true) × (r ≡ refused fault.Unsupported t.token.at))
 
 -- What a reader answers. It goes as far as the pieces begin a tree. Where those pieces are a tree, that is read; else
 -- the next piece is the fault. The limit is passed at the first piece before the fault whose load is above it. Pieces
 -- may also end before a tree does; those of a unit end with a token that is in no other tree.
-pub data Answers {A : Type 0} (limit : ℕ) (p : Levelled A) (ts : List Piece) (r : Result (A × List Piece) Stopped) : Type 0 where
-  Tree : (us rest : List Piece) (x : A) → r ≡ Ok (x, rest) → Farthest p ts us rest → IsTreeWithin limit p us x → Answers limit p ts r
-  Fault : (us : List Piece) (t : Piece) (rest : List Piece) (q : Refusal) → r ≡ Err (At q) → IsFaultAt t q → Farthest p ts us (t ∷ rest) → BeginsWithin limit p us
-      → ((x : A) → IsTree p us x → ⊥) → Answers limit p ts r
+pub data Answers {A : Type 0} (requires : Bool) (limit : ℕ) (p : Levelled A) (ts : List Piece) (r : Result (A × List Piece) Stopped) : Type 0 where
+  Tree : (us rest : List Piece) (x : A) → r ≡ Ok (x, rest) → Farthest p ts us rest → IsTreeWithin limit p us x → Answers requires limit p ts r
+  Fault : (us : List Piece) (t : Piece) (rest : List Piece) (q : Refusal) → r ≡ Err (At q) → IsFaultAt requires t q → Farthest p ts us (t ∷ rest) → BeginsWithin limit p us
+      → ((x : A) → IsTree p us x → ⊥) → Answers requires limit p ts r
   TooDeep : (us : List Piece) (t : Piece) (rest : List Piece) → r ≡ Err (At (Passed limits.Depth t.token.at)) → ts ≡ us ++ t ∷ rest → BeginsWithin limit p us
-      → Begins p (us ++ t ∷ []) → (BeginsWithin limit p (us ++ t ∷ []) → ⊥) → Answers limit p ts r
-  Short : r ≡ Err Ended → BeginsWithin limit p ts → ((x : A) → IsTree p ts x → ⊥) → Answers limit p ts r
+      → Begins p (us ++ t ∷ []) → (BeginsWithin limit p (us ++ t ∷ []) → ⊥) → Answers requires limit p ts r
+  Short : r ≡ Err Ended → BeginsWithin limit p ts → ((x : A) → IsTree p ts x → ⊥) → Answers requires limit p ts r
 
--- The laws of a production where a load is given.
-pub record GrammarLaws {A : Type 0} (load : ℕ) (p : Levelled A) : Type 0 where
+-- The laws of a production where a load is given, requires-expressions being read or not.
+pub record GrammarLaws {A : Type 0} (requires : Bool) (load : ℕ) (p : Levelled A) : Type 0 where
   -- Pieces have at most one tree.
   pub one_tree : (ts : List Piece) (x y : A) → IsTree p ts x → IsTree p ts y → x ≡ y
   -- No pieces begin a tree, and so do those of a tree, and the first ones of those that do.
@@ -62,7 +62,7 @@ pub record GrammarLaws {A : Type 0} (load : ℕ) (p : Levelled A) : Type 0 where
   pub trees_begin : (ts : List Piece) (x : A) → IsTree p ts x → Begins p ts
   pub first_begin : (us vs : List Piece) → Begins p (us ++ vs) → Begins p us
   -- So answers a reader that has two levels more than what the limit leaves above the load.
-  pub answers : (limit level : ℕ) (ts : List Piece) → limit + 2 ≤ level + load → 2 ≤ level → Answers limit p ts ((p level).read limit ts)
+  pub answers : (limit level : ℕ) (ts : List Piece) → limit + 2 ≤ level + load → 2 ≤ level → Answers requires limit p ts ((p level).read limit ts)
 
 -- A token that is spelled `>>` is a punctuator, as the lexer has it.
 abbrev pub is_sound : TokenTree → Bool

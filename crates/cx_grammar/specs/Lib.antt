@@ -3,6 +3,7 @@ pub mod Production
 pub mod Names
 pub mod Words
 pub mod Types
+pub mod Requires
 pub mod Expressions
 pub mod Statements
 pub mod Declarations

@@ -25,6 +25,10 @@ inside c = record { names = c.names; angle = 0; load = c.load + 1 }
 abbrev pub listed : Context → Context
 listed c = record { names = c.names; angle = c.angle + 1; load = c.load + 1 }
 
+-- where other names are known
+abbrev pub with_names : Context → Frames → Context
+with_names c names = record c { names = names }
+
 -- whether two kinds are one
 abbrev pub same_kind : NameKind → NameKind → Bool
 same_kind Value Value = true

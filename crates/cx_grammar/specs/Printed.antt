@@ -74,25 +74,25 @@ grouped left [] = left
 grouped left ((o, right) ∷ more) = grouped (BinaryTree (marked right.1 left.0) o left.0 right.0, right.1 + 1) more
 
 -- None or more operators of a level with their operands, each one construct deeper, nested so many levels deep at most.
-unfoldable pub joined : ℕ → ℕ → Context → ℕ → Relation (List Joined)
-joined zero level c n = optional
+unfoldable pub joined : Bool → ℕ → ℕ → Context → ℕ → Relation (List Joined)
+joined requires zero level c n = optional
     (do
       o ← trees_of (operator level c)
       trees_of closed)
     []
-joined (suc depth) level c n = optional
+joined requires (suc depth) level c n = optional
     (do
       o ← trees_of (operator level c)
-      right ← trees_of (operand (levels depth) level (deeper c) n)
-      more ← joined depth level (deeper c) (right.1 + 1)
+      right ← trees_of (operand (levels requires depth) level (deeper c) n)
+      more ← joined requires depth level (deeper c) (right.1 + 1)
       trees_of (give ((o, right) ∷ more)))
     []
 
 -- An expression of the operators up to a level.
-unfoldable pub printed_operand : ℕ → ℕ → Context → ℕ → Relation (Numbered ExprTree)
-printed_operand depth level c n = do
-  left ← trees_of (operand (levels depth) level c n)
-  more ← joined depth level c left.1
+unfoldable pub printed_operand : Bool → ℕ → ℕ → Context → ℕ → Relation (Numbered ExprTree)
+printed_operand requires depth level c n = do
+  left ← trees_of (operand (levels requires depth) level c n)
+  more ← joined requires depth level c left.1
   trees_of (give (grouped left more))
 
 -- ---- postfix = primary { "." Name | "(" [ args ] ")" | "++" | "--" }
@@ -130,13 +130,13 @@ stepped behind c n = do
   trees_of (give (Step (postfix_operator t) ∷ more))
 
 -- the arguments are nested so many levels deep at most
-abbrev pub called_with : ℕ → Behind → Context → ℕ → Relation (List Suffix)
-called_with zero behind c n = do
+abbrev pub called_with : Bool → ℕ → Behind → Context → ℕ → Relation (List Suffix)
+called_with requires zero behind c n = do
   open_round ← trees_of (token (c.load + 1) (punct (codes "(")))
   trees_of closed
-called_with (suc depth) behind c n = do
+called_with requires (suc depth) behind c n = do
   open_round ← trees_of (token (c.load + 1) (punct (codes "(")))
-  es ← trees_of (exprs_until (codes ")") (levels depth) (inside (deeper c)) n)
+  es ← trees_of (exprs_until (codes ")") (levels requires depth) (inside (deeper c)) n)
   close_round ← trees_of (token ((deeper c).load + 1) (punct (codes ")")))
   more ← behind NoCall (deeper c) (es.1 + 1)
   trees_of (give (Arguments es ∷ more))
@@ -148,16 +148,16 @@ allowed MayCall call others = or call (optional others [])
 allowed MustCall call others = call
 
 -- None or more suffixes, each one construct deeper, nested so many levels deep at most.
-unfoldable pub suffixes : ℕ → Behind
-suffixes zero calling c n =
-    allowed calling (called_with zero (λ calling c n. trees_of closed) c n) (or (dotted (λ calling c n. trees_of closed) c n) (stepped (λ calling c n. trees_of closed) c n))
-suffixes (suc depth) calling c n =
-    allowed calling (called_with (suc depth) (suffixes depth) c n) (or (dotted (suffixes depth) c n) (stepped (suffixes depth) c n))
+unfoldable pub suffixes : Bool → ℕ → Behind
+suffixes requires zero calling c n =
+    allowed calling (called_with requires zero (λ calling c n. trees_of closed) c n) (or (dotted (λ calling c n. trees_of closed) c n) (stepped (λ calling c n. trees_of closed) c n))
+suffixes requires (suc depth) calling c n =
+    allowed calling (called_with requires (suc depth) (suffixes requires depth) c n) (or (dotted (suffixes requires depth) c n) (stepped (suffixes requires depth) c n))
 
-unfoldable pub printed_postfix : ℕ → Context → ℕ → Relation (Numbered ExprTree)
-printed_postfix depth c n = do
-  p ← trees_of (primary (levels depth) c n)
-  more ← suffixes depth p.1 c p.0.1
+unfoldable pub printed_postfix : Bool → ℕ → Context → ℕ → Relation (Numbered ExprTree)
+printed_postfix requires depth c n = do
+  p ← trees_of (primary (levels requires depth) c n)
+  more ← suffixes requires depth p.1 c p.0.1
   trees_of (give (applied_all p.0 more))
 
 -- what goes on behind a postfix expression

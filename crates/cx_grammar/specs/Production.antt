@@ -95,17 +95,17 @@ closed = record {
   read = read_closed;
 }
 
-unfoldable pub read_unbuilt : {A : Type 0} → ℕ → List Piece → Result (A × List Piece) Stopped
-read_unbuilt limit [] = Err Ended
-read_unbuilt limit (t ∷ ts) = Err (At (refused fault.Unsupported t.token.at))
+unfoldable pub read_unread : {A : Type 0} → (Piece → Bool) → ℕ → List Piece → Result (A × List Piece) Stopped
+read_unread p limit [] = Err Ended
+read_unread p limit (t ∷ ts) = Err (At (if p t then refused fault.Unsupported t.token.at else misfit t.token))
 
 -- What the language has and the parsers do not read yet: it has no tree and no beginning but the empty one, and is
--- unsupported at its first token.
-abbrev pub unbuilt : {A : Type 0} → Production A
-unbuilt = record {
+-- unsupported at a first token of some kind.
+abbrev pub unread : {A : Type 0} → (Piece → Bool) → Production A
+unread p = record {
   whole = λ limit ts behind x. ⊥;
   front = λ limit ts. ts ≡ [];
-  read = read_unbuilt;
+  read = read_unread p;
 }
 
 -- A production again and again, as long as the next token is of some kind, at most so many times.

@@ -1,23 +1,20 @@
 -- Statements ([stmt.stmt]) and the declarations of variables in them.
-use Rattle.std.specs.Prelude.{ℕ, ◌+◌, Bool, true, false, not, List, [], ◌∷◌, ◌++◌, codes, Option, Some, None}
+use Rattle.std.specs.Prelude.{ℕ, ◌+◌, Bool, true, false, List, [], ◌∷◌, ◌++◌, codes, Option, Some, None}
 use Rattle.cx_base.specs.declared.place.Place.{Place}
 use Rattle.cx_lexer.specs.declared.token.TokenKind.{TokenKind}
 use Rattle.cx_lexer.specs.declared.token.TokenKind.TheVariants as kind
 use Rattle.cx_scope.specs.declared.name_kind.NameKind.TheVariants.{Value}
-use Rattle.cx_scope.specs.Frames.{Frames, noted, entered}
-use Rattle.cx_tree.specs.Trees.{Mark, ExprTree, NameTree, TemplateTree, TypeTree, CoreTree, ArgumentTrees, no_argument, arguments, exprs}
+use Rattle.cx_scope.specs.Frames.{noted, entered}
+use Rattle.cx_tree.specs.Trees.{Mark, ExprTree, NameTree, TemplateTree, TypeTree, CoreTree, ArgumentTrees, no_argument, exprs, ConstraintTree}
 use Rattle.cx_tree.specs.Declarations.{ParameterTree, MemberTree, TemplateParameterTree, DeclTree}
-use Rattle.cx_tree.specs.Statements.{ConstraintTree, AutoTree, OfType, OfAuto, InitTree, ValueInit, ListInit, VariableTree, ForInit, NoInit, VariableInit, ExprInit, AssertTree, StmtTree, EmptyStmt, Block, AssertStmt, Break, Continue, Return, If, IfElse, While, For, VariableStmt, ExprStmt, stmts}
+use Rattle.cx_tree.specs.Statements.{AutoTree, OfType, OfAuto, InitTree, ValueInit, ListInit, VariableTree, ForInit, NoInit, VariableInit, ExprInit, AssertTree, StmtTree, EmptyStmt, Block, AssertStmt, Break, Continue, Return, If, IfElse, While, For, VariableStmt, ExprStmt, stmts}
 use Rattle.cx_grammar.specs.Pieces.{Piece}
 use Rattle.cx_grammar.specs.Production.{Production, give, ◌>>=◌, token, when, repeat}
 use Rattle.cx_grammar.specs.Words.{word, punct, any_name}
-use Rattle.cx_grammar.specs.Names.{Context, deeper, inside, concept_name}
-use Rattle.cx_grammar.specs.Types.{Numbered, Placed, MayCall, NoCall, Below, numbered, argument_list, type_id, type_behind, one_word, scalar_of_word, scalar_behind, placed_scalar}
+use Rattle.cx_grammar.specs.Names.{Context, deeper, inside, with_names, concept_name}
+use Rattle.cx_grammar.specs.Types.{Numbered, Named, Placed, MayCall, NoCall, Below, numbered, type_id, type_behind, one_word, scalar_of_word, scalar_behind, placed_scalar}
+use Rattle.cx_grammar.specs.Requires.{constraint, is_not_closing}
 use Rattle.cx_grammar.specs.Expressions.{place_of, expr, expr_behind, tail, exprs_until, head_name, core_word, behind_head, behind_core, goes_on}
-
--- What is given where names may be declared: a tree, the number of the next node, and the names behind it.
-abbrev pub Named : Type 0 → Type 0
-Named A = A × ℕ × Frames
 
 -- The productions one construct deeper.
 pub record Within : Type 1 where
@@ -29,9 +26,6 @@ pub record Within : Type 1 where
   pub members : Bool → Context → ℕ → Production (Numbered (List MemberTree))
   pub template_parameters : Context → ℕ → Production (Named (List TemplateParameterTree))
   pub decl : Context → ℕ → Production (Named DeclTree)
-
-abbrev pub with_names : Context → Frames → Context
-with_names c names = record c { names = names }
 
 -- a tree that declares nothing
 abbrev pub unnamed : {A : Type 0} → Context → Numbered A → Named A
@@ -103,15 +97,6 @@ auto_variable_behind b c is_constexpr of = do
   give (record { mark = numbered i.1 name.token.at; is_constexpr = is_constexpr; type = OfAuto of.0; name = name.token.text; init = i.0 }, i.1 + 1, noted c.names name.token.text Value)
 
 -- ---- `auto` ([dcl.spec.auto]): `const` before or behind it or both, a constraint before it, `&` behind it
-
-unfoldable pub constraint : Below → Context → ℕ → Production (Numbered ConstraintTree)
-constraint b c n = do
-  name ← token c.load (concept_name c)
-  when (punct (codes "<"))
-      (do
-        args ← argument_list b c n
-        give (record { mark = numbered args.1 name.token.at; name = name.token.text; args = arguments args.0 }, args.1 + 1))
-      (give (record { mark = numbered n name.token.at; name = name.token.text; args = arguments [] }, n + 1))
 
 unfoldable pub const_behind_auto : Context → Bool → Production Bool
 const_behind_auto c before = when (word (codes "const"))
@@ -283,9 +268,6 @@ abbrev pub more_stmt : Within → Context → Named (List StmtTree) → Producti
 more_stmt b c so_far = do
   s ← b.stmt (with_names c so_far.2) so_far.1
   give (so_far.0 ++ s.0 ∷ [], s.1, s.2)
-
-abbrev pub is_not_closing : Piece → Bool
-is_not_closing p = not (punct (codes "}") p)
 
 -- a block: its names are forgotten behind it ([basic.scope.block])
 unfoldable pub block : Within → Context → ℕ → Production (Numbered StmtTree)

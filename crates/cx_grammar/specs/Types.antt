@@ -4,6 +4,7 @@ use Rattle.cx_base.specs.declared.place.Place.{Place}
 use Rattle.cx_base.specs.declared.value.Scalar.{Scalar}
 use Rattle.cx_base.specs.declared.value.Scalar.TheVariants as scalar
 use Rattle.cx_tree.specs.Trees.{Mark, ExprTree, TypeTree, OfCore, CoreTree, ScalarTree, VoidTree, TypeNameTree, ClassTree, MemberTypeTree, DecltypeTree, ArgumentTree, arguments}
+use Rattle.cx_scope.specs.Frames.{Frames}
 use Rattle.cx_grammar.specs.Pieces.{Piece}
 use Rattle.cx_grammar.specs.Production.{Production, give, ◌>>=◌, token, when, given, repeat}
 use Rattle.cx_grammar.specs.Words.{is_all, is_first, is_second, word, punct, any_name}
@@ -13,6 +14,10 @@ use Rattle.cx_grammar.specs.Names.{Context, deeper, inside, listed, type_name, c
 abbrev pub Numbered : Type 0 → Type 0
 Numbered A = A × ℕ
 
+-- What is given where names may be declared: a tree, the number of the next node, and the names behind it.
+abbrev pub Named : Type 0 → Type 0
+Named A = A × ℕ × Frames
+
 -- Where a piece of a tree stands that has no node of its own, with the piece.
 abbrev pub Placed : Type 0 → Type 0
 Placed A = Place × A
@@ -21,8 +26,10 @@ Placed A = Place × A
 pub data Calling : Type 0 where
   NoCall MayCall MustCall : Calling
 
--- The productions that stand within constructs: one more construct is open there.
+-- The productions that stand within constructs: one more construct is open there. It is told whether requires-expressions
+-- are read: the language has them, and the parsers read none yet.
 pub record Below : Type 1 where
+  pub requires : Bool
   pub expr : Context → ℕ → Production (Numbered ExprTree)
   pub unary : Context → ℕ → Production (Numbered ExprTree)
   pub binary_rest : ℕ → Context → Numbered ExprTree → Production (Numbered ExprTree)
@@ -201,6 +208,10 @@ core b c n =
     (when (word (codes "void")) (void_core c n) (scalar_only c n))))
 
 -- ---- types
+
+-- the place of a type
+abbrev pub type_place : TypeTree → Place
+type_place (OfCore m constant core reference) = m.at
 
 -- where `const` is not there yet
 unfoldable pub maybe_const : Context → Bool → Production Bool

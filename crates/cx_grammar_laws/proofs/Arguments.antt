@@ -17,9 +17,9 @@ use Rattle.cx_grammar_laws.specs.Printed.{printed_argument}
 use Rattle.cx_grammar_laws.proofs.Cases.{Where, Any, First, Alike, alike, turned, ◌then◌, first-Alike, take-Alike, Never, never_begins, Avoids, avoids-Apart, printed_alike, then-Avoids, give-Avoids, PrintedWhere, everywhere, by_first, Idle, starts-Idle, only_first, only_second, alternatives, told_apart}
 use Rattle.cx_grammar_laws.proofs.Firsts.{head_const, core_word_const, one_word_const, long_const, head_expr, core_expr, word_expr, expr_first, expr-Starts, const_no_expr, long_no_expr, type_first, type-Starts, no_type, type_behind-Avoids, scalar_behind-Avoids, behind_core-Starts, behind_head-Starts, bare, word_type, const_goes_on, reference_goes_on, const_brace, reference_brace, int_brace, long_brace, brace_goes_on}
 
-module _ (depth : ℕ) (c : Context) (n : ℕ) where
+module _ (requires : Bool) (depth : ℕ) (c : Context) (n : ℕ) where
   abbrev b : Below
-  b = levels (suc depth)
+  b = levels requires (suc depth)
 
   abbrev core-Production : Production (Numbered (Placed CoreTree))
   core-Production = b.core (deeper c) n
@@ -33,7 +33,7 @@ module _ (depth : ℕ) (c : Context) (n : ℕ) where
   abbrev IsPrinted : Where → Production (Numbered ArgumentTree) → Type 0
   IsPrinted W p = PrintedWhere W goes_on p (or (trees_of T) (trees_of E))
 
-  alone : BelowAlone b
+  alone : BelowAlone requires b
   alone = levels-Alone (suc depth)
 
   T-starts : (l : ℕ) → T.front l []
@@ -42,7 +42,7 @@ module _ (depth : ℕ) (c : Context) (n : ℕ) where
   E-starts : (l : ℕ) → E.front l []
   E-starts l = (then-Lawful (expr-Alone alone c n).lawful (λ e. give-Lawful (value_argument e))).starts l
 
-  argument_type-Lawful : (k : Numbered (Placed CoreTree)) → Lawful (argument_type c k)
+  argument_type-Lawful : (k : Numbered (Placed CoreTree)) → Lawful requires (argument_type c k)
   unfolding argument_type
   argument_type-Lawful k = then-Lawful (type_behind-Alone c k.0.0 false (k.0.1, k.1)).lawful (λ t. give-Lawful (type_argument t))
 
@@ -88,7 +88,7 @@ module _ (depth : ℕ) (c : Context) (n : ℕ) where
 
   word_type_argument : Alike (First one_word) T (token (c.load + 1) one_word >>= scalar_type)
   unfolding levels
-  word_type_argument = bare_argument (never_begins one_word_const) then word_type (levels depth) (deeper c) n (argument_type c) argument_type-starts
+  word_type_argument = bare_argument (never_begins one_word_const) then word_type (levels requires depth) (deeper c) n (argument_type c) argument_type-starts
 
   word_case : IsPrinted (First one_word) (word_argument b c n)
   unfolding word_argument argument_of
@@ -109,7 +109,7 @@ module _ (depth : ℕ) (c : Context) (n : ℕ) where
   other_case : IsPrinted Other E
   other_case =
       only_second (printed_alike goes_on (alike Other E))
-      (starts-Idle (type_first c) (first-Starts (λ t. give (type_argument t)) (type-Starts (suc depth) c n)) (λ ts h. no_type c ts h.0.0.0.0.1 h.0.0.0.1 h.0.0.1 h.0.1 h.1) E-starts)
+      (starts-Idle (type_first c) (first-Starts (λ t. give (type_argument t)) (type-Starts requires (suc depth) c n)) (λ ts h. no_type c ts h.0.0.0.0.1 h.0.0.0.1 h.0.0.1 h.0.1 h.1) E-starts)
 
   argument_where : IsPrinted Any (argument b c n)
   unfolding argument

@@ -9,7 +9,7 @@ use Rattle.cx_grammar.specs.Words.{word, any_name}
 use Rattle.cx_grammar.specs.Names.{Context, deeper, concept_name, class_name, type_name, kind_name}
 use Rattle.cx_grammar.specs.Types.{Numbered, Placed, Below, type_id, const_type, bare_type, type_behind, one_word}
 use Rattle.cx_grammar.specs.Expressions.{levels}
-use Rattle.cx_grammar.specs.Statements.{constraint}
+use Rattle.cx_grammar.specs.Requires.{constraint}
 use Rattle.cx_grammar.specs.Printed as relation
 use Rattle.cx_grammar.specs.Printed.{Relation, trees_of, or}
 use Rattle.cx_grammar.proofs.AloneTypes.{BelowAlone, type_id-Alone}
@@ -76,11 +76,11 @@ module _ {A : Type 0} (c : Context) (goes_on s : Piece → Bool) {constrained pl
 
 -- ---- a type, or `auto` behind `const` and a constraint, each there or not
 
-module _ (depth : ℕ) (c : Context) (n : ℕ) where
+module _ (requires : Bool) (depth : ℕ) (c : Context) (n : ℕ) where
   abbrev b : Below
-  b = levels depth
+  b = levels requires depth
 
-  alone : BelowAlone b
+  alone : BelowAlone requires b
   alone = levels-Alone depth
 
   module _ {A : Type 0} (behind : Numbered TypeTree → Production A) where
@@ -89,7 +89,7 @@ module _ (depth : ℕ) (c : Context) (n : ℕ) where
     of_type = type_id b c n >>= behind
 
     of_type-Starts : Starts (type_first c) of_type
-    of_type-Starts = first-Starts behind (type-Starts depth c n)
+    of_type-Starts = first-Starts behind (type-Starts requires depth c n)
 
     of_type-starts : (l : ℕ) → of_type.front l []
     of_type-starts l = inl ((type_id-Alone alone c n).lawful.starts l)
@@ -141,7 +141,7 @@ module _ (depth : ℕ) (c : Context) (n : ℕ) where
           (only_first
           (first_alternative const_first
           (behind-Printed (First (word (codes "const"))) (token c.load (word (codes "const"))) behind_const of_const N (λ t.
-          three_ways c goes_on (core_first (deeper c)) (constrained-Starts (Some t.token.at) true) (plain-Starts (Some t.token.at) true) (first-Starts (of_core t) (level_core-Starts depth (deeper c) n)) (constrained-starts (Some t.token.at) true) (plain-starts (Some t.token.at) true) (of_const-starts t) (concept_no_core c) (auto_no_core c) Any)))
+          three_ways c goes_on (core_first (deeper c)) (constrained-Starts (Some t.token.at) true) (plain-Starts (Some t.token.at) true) (first-Starts (of_core t) (level_core-Starts requires depth (deeper c) n)) (constrained-starts (Some t.token.at) true) (plain-starts (Some t.token.at) true) (of_const-starts t) (concept_no_core c) (auto_no_core c) Any)))
           (or-Idle
           (starts-Idle (concept_name c) (constrained-Starts None false) (never_begins (const_concept c)) (λ l. inl (of_type-starts l)))
           (starts-Idle (word (codes "auto")) (plain-Starts None false) (never_begins const_auto) (λ l. inl (of_type-starts l)))))

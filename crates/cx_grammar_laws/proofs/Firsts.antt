@@ -63,7 +63,7 @@ long_const = word_Never (codes "long") (word (codes "const")) (λ t. refl)
 
 -- ---- an expression that begins with a type
 
-module _ {b : Below} (h : BelowAlone b) (c : Context) (n : ℕ) {B : Type 0} (behind : Numbered ExprTree → Production B) where
+module _ {requires : Bool} {b : Below} (h : BelowAlone requires b) (c : Context) (n : ℕ) {B : Type 0} (behind : Numbered ExprTree → Production B) where
   -- behind a primary that no call may follow
   abbrev pub behind_primary : Numbered ExprTree → Production B
   behind_primary p = do
@@ -181,14 +181,14 @@ module _ (b : Below) (c : Context) (n : ℕ) where
 abbrev pub type_first : Context → Piece → Bool
 type_first c t = word (codes "const") t || core_first (deeper c) t
 
-pub level_core-Starts : (depth : ℕ) (c : Context) (n : ℕ) → Starts (core_first c) ((levels depth).core c n)
+pub level_core-Starts : (requires : Bool) (depth : ℕ) (c : Context) (n : ℕ) → Starts (core_first c) ((levels requires depth).core c n)
 unfolding levels
-level_core-Starts zero c n = record { begins_so = λ l ts behind x w. absurd w; begun_so = λ l ts k. inl k }
-level_core-Starts (suc depth) c n = core-Starts (levels depth) c n
+level_core-Starts requires zero c n = record { begins_so = λ l ts behind x w. absurd w; begun_so = λ l ts k. inl k }
+level_core-Starts requires (suc depth) c n = core-Starts (levels requires depth) c n
 
-pub type-Starts : (depth : ℕ) (c : Context) (n : ℕ) → Starts (type_first c) (type_id (levels depth) c n)
+pub type-Starts : (requires : Bool) (depth : ℕ) (c : Context) (n : ℕ) → Starts (type_first c) (type_id (levels requires depth) c n)
 unfolding type_id bare_type
-type-Starts depth c n = chosen-Starts (word (codes "const")) _ (const_type (levels depth) c n) (first-Starts _ (level_core-Starts depth (deeper c) n))
+type-Starts requires depth c n = chosen-Starts (word (codes "const")) _ (const_type (levels requires depth) c n) (first-Starts _ (level_core-Starts requires depth (deeper c) n))
 
 nor_parts : (a b : Bool) → (a || b) ≡ false → (a ≡ false) × (b ≡ false)
 nor_parts true b e = absurd (true≢false e)

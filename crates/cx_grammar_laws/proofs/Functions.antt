@@ -8,8 +8,8 @@ use Rattle.cx_grammar.specs.Pieces.{Piece}
 use Rattle.cx_grammar.specs.Production.{Production, give, ◌>>=◌, token, when, begins}
 use Rattle.cx_grammar.specs.Words.{punct, any_name}
 use Rattle.cx_grammar.specs.Names.{Context}
-use Rattle.cx_grammar.specs.Types.{Numbered, Below, numbered, type_id}
-use Rattle.cx_grammar.specs.Statements.{Named, Within, init, list_init, value_init}
+use Rattle.cx_grammar.specs.Types.{Numbered, Below, numbered, type_id, Named}
+use Rattle.cx_grammar.specs.Statements.{Within, init, list_init, value_init}
 use Rattle.cx_grammar.specs.Declarations.{no_specifiers, specifiers, constant_behind, function_behind, variable_or_function, is_member_specifier, field_or_function}
 use Rattle.cx_grammar.specs.Printed as relation
 use Rattle.cx_grammar.specs.Printed.{Relation, IsAsPrinted, trees_of, or}

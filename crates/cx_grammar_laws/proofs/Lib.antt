@@ -1,15 +1,12 @@
-pub mod Spared
 pub mod NumbersBehind
 pub mod NumbersStatements
 pub mod NumbersDeclarations
 pub mod NodeLaws
-pub mod RequiresLevels
-pub mod RequiresAlone
-pub mod RequiresNumbers
 pub mod RequiresLaws
 pub mod Starting
 pub mod Relations
 pub mod PrintedParts
+pub mod PrintedLocals
 pub mod PrintedRequires
 pub mod Cases
 pub mod Tokens

@@ -6,14 +6,15 @@ use Rattle.cx_tree.specs.Trees.{Mark}
 use Rattle.cx_tree.specs.Declarations.{DeclTree}
 use Rattle.cx_grammar.specs.Pieces.{Piece, First, Second, All, as_piece, is_double, halves, pieces}
 use Rattle.cx_grammar.specs.Names.{Context}
-use Rattle.cx_grammar.specs.Types.{Numbered}
-use Rattle.cx_grammar.specs.Statements.{Named, stmt}
+use Rattle.cx_grammar.specs.Types.{Numbered, Named}
+use Rattle.cx_grammar.specs.Statements.{stmt}
 use Rattle.cx_grammar.specs.Declarations.{decl, unit, unit_levels}
 use Rattle.cx_grammar.specs.Laws.{Levelled, IsTree, NumberLaws}
 use Rattle.cx_grammar.proofs.Counts.{Yields, Counted}
+use Rattle.cx_grammar.proofs.NumbersTypes.{Of, OfNamed}
 use Rattle.cx_tree.specs.UnitNodes.{stmt_nodes, decl_nodes}
 use Rattle.cx_grammar_laws.specs.NodeLaws.{NamedNumberLaws, UnitNumberLaws}
-use Rattle.cx_grammar_laws.proofs.NumbersStatements.{Of, OfNamed, stmt-Yields}
+use Rattle.cx_grammar_laws.proofs.NumbersStatements.{stmt-Yields}
 use Rattle.cx_grammar_laws.proofs.NumbersDeclarations.{OfUnit, decl-Yields, unit-Yields, unit_levels-Counts}
 
 two_at_most : (b : Bool) (t : TokenTree) → length (if b then as_piece t First ∷ as_piece t Second ∷ [] else as_piece t All ∷ []) ≤ 2
@@ -51,19 +52,19 @@ module _ {A : Type 0} (nodes : A → List Mark) (n : ℕ) (p : Levelled (Numbere
     for_tokens = λ ts x m t. let g = unnamed_counted (pieces ts) x m t in omega (arith, g.next, g.few, length-pieces ts);
   }
 
-module _ (c : Context) (n : ℕ) where
-  pub stmt_numbers : NamedNumberLaws stmt_nodes n (λ level. stmt (unit_levels level) c n)
-  stmt_numbers = named_laws stmt_nodes n (λ level. stmt (unit_levels level) c n) (λ level. stmt-Yields (unit_levels-Counts level) c n 0)
+module _ (requires : Bool) (c : Context) (n : ℕ) where
+  pub stmt_numbers : NamedNumberLaws stmt_nodes n (λ level. stmt (unit_levels requires level) c n)
+  stmt_numbers = named_laws stmt_nodes n (λ level. stmt (unit_levels requires level) c n) (λ level. stmt-Yields (unit_levels-Counts requires level) c n 0)
 
-  pub decl_numbers : NamedNumberLaws decl_nodes n (λ level. decl (unit_levels level) c n)
-  decl_numbers = named_laws decl_nodes n (λ level. decl (unit_levels level) c n) (λ level. decl-Yields (unit_levels-Counts level) c n 0)
+  pub decl_numbers : NamedNumberLaws decl_nodes n (λ level. decl (unit_levels requires level) c n)
+  decl_numbers = named_laws decl_nodes n (λ level. decl (unit_levels requires level) c n) (λ level. decl-Yields (unit_levels-Counts requires level) c n 0)
 
-unit_counted : (ts : List Piece) (x : List DeclTree) → IsTree (λ level. unit (unit_levels level)) ts x → OfUnit (0 + length ts) x
-unit_counted ts x t = (unit-Yields (unit_levels-Counts t.1.level)).yields t.0 ts [] x t.1.whole
+unit_counted : (requires : Bool) (ts : List Piece) (x : List DeclTree) → IsTree (λ level. unit (unit_levels requires level)) ts x → OfUnit (0 + length ts) x
+unit_counted requires ts x t = (unit-Yields (unit_levels-Counts requires t.1.level)).yields t.0 ts [] x t.1.whole
 
-pub unit_numbers : UnitNumberLaws (λ level. unit (unit_levels level))
-unit_numbers = record {
-  numbered = λ ts x t. (unit_counted ts x t).1.numbers;
-  for_pieces = λ ts x t. let g = (unit_counted ts x t).1 in omega (arith, g.few);
-  for_tokens = λ ts x t. let g = (unit_counted (pieces ts) x t).1 in omega (arith, g.few, length-pieces ts);
+pub unit_numbers : (requires : Bool) → UnitNumberLaws (λ level. unit (unit_levels requires level))
+unit_numbers requires = record {
+  numbered = λ ts x t. (unit_counted requires ts x t).1.numbers;
+  for_pieces = λ ts x t. let g = (unit_counted requires ts x t).1 in omega (arith, g.few);
+  for_tokens = λ ts x t. let g = (unit_counted requires (pieces ts) x t).1 in omega (arith, g.few, length-pieces ts);
 }

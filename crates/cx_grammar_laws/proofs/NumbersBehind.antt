@@ -8,7 +8,7 @@ use Rattle.cx_grammar.specs.Types.{Numbered, Placed, Below, as_type, qualified_n
 use Rattle.cx_grammar.specs.Expressions.{above, place_of, more_expr, some_exprs, exprs_until, list, qualified, behind_head, behind_core, rests, conditional, assignment, expr_behind}
 use Rattle.cx_grammar.proofs.Counts.{Yields, give-Yields, then-Yields, take, rest_of, when-Yields, repeat-Yields, seq, none, node, as_list, exprs_more}
 use Rattle.cx_grammar.proofs.NumbersTypes.{OfExpr, OfExprs, OfType, OfCore', BelowCounts}
-use Rattle.cx_grammar_laws.proofs.Spared.{paid, between}
+use Rattle.cx_grammar.proofs.Spared.{paid, between}
 
 qualified_names-Yields : (c : Context) (s : ℕ) → Yields (qualified_names c) s (λ k names. s < k)
 unfolding qualified_names

@@ -4,23 +4,24 @@ use Rattle.std.specs.List.{flat_map}
 use Rattle.cx_base.specs.declared.place.Place.{Place}
 use Rattle.cx_scope.specs.declared.name_kind.NameKind.{NameKind}
 use Rattle.cx_scope.specs.Frames.{entered}
-use Rattle.cx_tree.specs.Trees.{TypeTree, VoidTree}
-use Rattle.cx_tree.specs.Statements.{ConstraintTree, WrittenType, OfType as OfType'}
+use Rattle.cx_tree.specs.Trees.{TypeTree, VoidTree, ConstraintTree}
+use Rattle.cx_tree.specs.Statements.{WrittenType, OfType as OfType'}
 use Rattle.cx_tree.specs.Declarations.{Specifiers, ParameterTree, MemberTree, TemplateParameterTree, DeclTree}
 use Rattle.cx_grammar.specs.Pieces.{Piece}
 use Rattle.cx_grammar.specs.Production.{Production}
 use Rattle.cx_grammar.specs.Names.{Context, deeper}
-use Rattle.cx_grammar.specs.Types.{Numbered, Below, scalar_core, type_id}
+use Rattle.cx_grammar.specs.Types.{Numbered, Below, scalar_core, type_id, Named}
 use Rattle.cx_grammar.specs.Expressions.{above, levels}
-use Rattle.cx_grammar.specs.Statements.{Named, Within}
+use Rattle.cx_grammar.specs.Statements.{Within}
 use Rattle.cx_grammar.specs.Declarations.{unit_levels, specifiers, parameter_behind, typed_parameter, auto_parameter, const_parameter, parameter, more_parameter, parameters_behind, void_parameters, parameters, trailing, maybe_const_member, function_body, function_behind, constant_behind, alias, variable_or_function, static_member, field_or_function, struct_member, more_member, members, struct_body, struct_behind, struct, maybe_name, default_type, default_value, type_parameter, constrained_parameter, value_parameter, template_parameter, more_template_parameter, template_parameters, Templated, concept, specialisation, templated_struct, templated_function, templated, maybe_clause, template, decl, more_decl, unit}
 use Rattle.cx_grammar.proofs.Counts.{Yields, give-Yields, then-Yields, take, past, when-Yields, given-Yields, closed-Yields, repeat-Yields, Counted, seq, none, leaf, node, node_ahead, later, sooner, as_list}
-use Rattle.cx_grammar.proofs.NumbersTypes.{OfType, BelowCounts, type_behind-Yields, argument_list-Yields, type_id-Yields}
+use Rattle.cx_grammar.proofs.NumbersTypes.{Of, OfNamed, OfType, BelowCounts, type_behind-Yields, argument_list-Yields, type_id-Yields}
+use Rattle.cx_grammar.proofs.NumbersRequires.{constraint-Yields}
 use Rattle.cx_grammar.proofs.NumbersExpressions.{levels-Counts, unary-Yields, expr-Yields, clause-Yields}
 use Rattle.cx_tree.specs.UnitNodes.{maybe_expr_nodes, maybe_type_nodes, maybe_stmt_nodes, maybe_constraint_nodes, written_nodes, parameter_nodes, function_nodes, alias_nodes, constant_nodes, member_nodes, struct_nodes, template_parameter_nodes, templated_nodes, decl_nodes, unit_nodes}
-use Rattle.cx_grammar_laws.proofs.Spared.{Spared, ahead, behind, after, paid, flat_one, flat_more}
+use Rattle.cx_grammar.proofs.Spared.{Spared, ahead, behind, after, paid, flat_one, flat_more}
 use Rattle.cx_grammar_laws.proofs.NumbersBehind.{rests-Yields}
-use Rattle.cx_grammar_laws.proofs.NumbersStatements.{Of, OfNamed, WithinCounts, init-Yields, constraint-Yields, auto_behind-Yields, assertion-Yields, for_head-Yields, block-Yields, bare_stmt-Yields, stmt-Yields}
+use Rattle.cx_grammar_laws.proofs.NumbersStatements.{WithinCounts, init-Yields, auto_behind-Yields, assertion-Yields, for_head-Yields, block-Yields, bare_stmt-Yields, stmt-Yields}
 
 abbrev OfTemplated : ℕ → ℕ → ℕ → Templated → Type 0
 OfTemplated n s k x = Counted n s (templated_nodes x.0) x.1 k
@@ -244,11 +245,11 @@ module _ {b : Within} (k : WithinCounts b) where
 
 -- ---- the knot
 
-pub unit_levels-Counts : (n : ℕ) → WithinCounts (unit_levels n)
+pub unit_levels-Counts : (requires : Bool) (n : ℕ) → WithinCounts (unit_levels requires n)
 unfolding unit_levels levels
-unit_levels-Counts zero = record {
-  base = levels-Counts 0;
-  over = levels-Counts 1;
+unit_levels-Counts requires zero = record {
+  base = levels-Counts requires 0;
+  over = levels-Counts requires 1;
   stmt = λ c m s. closed-Yields;
   bare = λ c m s. closed-Yields;
   head = λ c m s. closed-Yields;
@@ -257,14 +258,14 @@ unit_levels-Counts zero = record {
   template_parameters = λ c m s j up. closed-Yields;
   decl = λ c m s. closed-Yields;
 }
-unit_levels-Counts (suc n) = record {
-  base = levels-Counts (suc n);
-  over = levels-Counts (suc (suc n));
-  stmt = stmt-Yields (unit_levels-Counts n);
-  bare = bare_stmt-Yields (unit_levels-Counts n);
-  head = for_head-Yields (levels-Counts n) (levels-Counts (suc n));
-  parameters = parameters-Yields (levels-Counts n);
-  members = members-Yields (unit_levels-Counts n);
-  template_parameters = template_parameters-Yields (levels-Counts n);
-  decl = decl-Yields (unit_levels-Counts n);
+unit_levels-Counts requires (suc n) = record {
+  base = levels-Counts requires (suc n);
+  over = levels-Counts requires (suc (suc n));
+  stmt = stmt-Yields (unit_levels-Counts requires n);
+  bare = bare_stmt-Yields (unit_levels-Counts requires n);
+  head = for_head-Yields (levels-Counts requires n) (levels-Counts requires (suc n));
+  parameters = parameters-Yields (levels-Counts requires n);
+  members = members-Yields (unit_levels-Counts requires n);
+  template_parameters = template_parameters-Yields (levels-Counts requires n);
+  decl = decl-Yields (unit_levels-Counts requires n);
 }

@@ -2,28 +2,23 @@
 use Rattle.std.proofs.Common.{◌≡◌, ℕ, ◌+◌, ◌<◌, ◌≤◌, Bool, List, [], ◌∷◌, ◌++◌, Option, Some, None, refl, ap, sym, ◌∙◌, append-nil, append_assoc, arith, codes}
 use Rattle.std.specs.List.{flat_map}
 use Rattle.cx_base.specs.declared.place.Place.{Place}
-use Rattle.cx_tree.specs.Trees.{Mark, ExprTree, TypeTree, CoreTree, ArgumentTrees, no_argument, and_type, and_value}
+use Rattle.cx_tree.specs.Trees.{Mark, ExprTree, TypeTree, CoreTree, ArgumentTrees, no_argument, and_type, and_value, ConstraintTree}
 use Rattle.cx_tree.specs.Nodes.{expr_nodes, argument_nodes}
-use Rattle.cx_tree.specs.Statements.{ConstraintTree, AutoTree, ForInit, StmtTree, Break, Continue, stmts}
+use Rattle.cx_tree.specs.Statements.{AutoTree, ForInit, StmtTree, Break, Continue, stmts}
 use Rattle.cx_grammar.specs.Production.{Production}
 use Rattle.cx_grammar.specs.Names.{Context, deeper, inside}
-use Rattle.cx_grammar.specs.Types.{Numbered, Placed, NoCall, MayCall, Below, placed_scalar, scalar_of_word, scalar_behind}
+use Rattle.cx_grammar.specs.Types.{Numbered, Placed, NoCall, MayCall, Below, placed_scalar, scalar_of_word, scalar_behind, Named}
 use Rattle.cx_grammar.specs.Expressions.{above}
-use Rattle.cx_grammar.specs.Statements.{Named, Within, with_arguments, concept_expr, condition, value_init, list_init, init, variable_behind, auto_variable_behind, constraint, const_behind_auto, reference_behind_auto, auto_behind, variable_of, variable_of_auto, expr_stmt_of, core_stmt, head_stmt, word_stmt, typed_variable, constrained_auto, plain_auto, const_variable, variable, concept_stmt, expr_stmt, open_stmt, assertion, more_stmt, block, substatement, alternative, if_stmt, while_stmt, maybe_expr, as_init, next_behind, for_init, for_head, for_stmt, return_stmt, jump, empty_stmt, closed_stmt, bare_stmt, stmt}
+use Rattle.cx_grammar.specs.Statements.{Within, with_arguments, concept_expr, condition, value_init, list_init, init, variable_behind, auto_variable_behind, const_behind_auto, reference_behind_auto, auto_behind, variable_of, variable_of_auto, expr_stmt_of, core_stmt, head_stmt, word_stmt, typed_variable, constrained_auto, plain_auto, const_variable, variable, concept_stmt, expr_stmt, open_stmt, assertion, more_stmt, block, substatement, alternative, if_stmt, while_stmt, maybe_expr, as_init, next_behind, for_init, for_head, for_stmt, return_stmt, jump, empty_stmt, closed_stmt, bare_stmt, stmt}
 use Rattle.cx_grammar.proofs.Counts.{Yields, give-Yields, then-Yields, take, past, when-Yields, repeat-Yields, Counted, seq, none, leaf, node, node_ahead, later, sooner, as_list}
-use Rattle.cx_grammar.proofs.NumbersTypes.{OfExpr, OfType, OfCore', BelowCounts, type_behind-Yields, argument_list-Yields, type_id-Yields}
+use Rattle.cx_grammar.proofs.NumbersTypes.{Of, OfNamed, OfExpr, OfType, OfCore', BelowCounts, type_behind-Yields, type_id-Yields}
+use Rattle.cx_grammar.proofs.NumbersRequires.{constraint-Yields}
 use Rattle.cx_grammar.proofs.NumbersExpressions.{expr-Yields}
-use Rattle.cx_tree.specs.UnitNodes.{maybe_expr_nodes, constraint_nodes, maybe_constraint_nodes, auto_nodes, init_nodes, variable_nodes, for_init_nodes, assert_nodes, stmt_nodes, stmts_nodes, parameter_nodes, member_nodes, template_parameter_nodes, decl_nodes}
-use Rattle.cx_grammar_laws.proofs.Spared.{Spared, ahead, behind, between, then_more, paid}
+use Rattle.cx_tree.specs.UnitNodes.{maybe_expr_nodes, maybe_constraint_nodes, auto_nodes, init_nodes, variable_nodes, for_init_nodes, assert_nodes, stmt_nodes, stmts_nodes, parameter_nodes, member_nodes, template_parameter_nodes, decl_nodes}
+use Rattle.cx_grammar.proofs.Spared.{Spared, ahead, behind, between, then_more, paid}
 use Rattle.cx_grammar_laws.proofs.NumbersBehind.{exprs_until-Yields, behind_head-Yields, behind_core-Yields, expr_behind-Yields}
 
 -- what trees give: the nodes from a number and a count of pieces on
-abbrev pub Of : {A : Type 0} → (A → List Mark) → ℕ → ℕ → ℕ → Numbered A → Type 0
-Of nodes n s k x = Counted n s (nodes x.0) x.1 k
-
-abbrev pub OfNamed : {A : Type 0} → (A → List Mark) → ℕ → ℕ → ℕ → Named A → Type 0
-OfNamed nodes n s k x = Counted n s (nodes x.0) x.1 k
-
 abbrev pub OfStmts : ℕ → ℕ → ℕ → Named (List StmtTree) → Type 0
 OfStmts n s k x = Counted n s (stmts_nodes (stmts x.0)) x.1 k
 
@@ -83,10 +78,6 @@ module _ {b : Below} (k : BelowCounts b) where
   auto_variable_behind-Yields : (c : Context) (is_constexpr : Bool) (of : Numbered AutoTree) {n s j : ℕ} → Of auto_nodes n s j of → Yields (auto_variable_behind b c is_constexpr of) j (OfNamed variable_nodes n s)
   unfolding auto_variable_behind
   auto_variable_behind-Yields c is_constexpr of {n} {s} {j} h = take (λ t. then-Yields (value_init-Yields c of.1 (j + 1)) (λ i l g. take (λ u. give-Yields (paid _ (between h (later g (omega arith)) (omega arith))))))
-
-  pub constraint-Yields : (c : Context) (n s : ℕ) → Yields (constraint b c n) s (Of constraint_nodes n s)
-  unfolding constraint
-  constraint-Yields c n s = take (λ t. when-Yields _ (then-Yields (argument_list-Yields k c n (s + 1)) (λ a i g. give-Yields (node_ahead _ g.0 (omega arith)))) (give-Yields (leaf (omega arith))))
 
 pub auto_behind-Yields : (c : Context) (at : Option Place) (before : Bool) (constrained : Option ConstraintTree) {n s m j : ℕ} → Counted n s (maybe_constraint_nodes constrained) m j
     → Yields (auto_behind c at before constrained m) j (Of auto_nodes n s)

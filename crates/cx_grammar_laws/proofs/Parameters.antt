@@ -6,10 +6,11 @@ use Rattle.cx_tree.specs.Declarations.{ParameterTree}
 use Rattle.cx_grammar.specs.Production.{Production, ◌>>=◌, token}
 use Rattle.cx_grammar.specs.Words.{word, any_name}
 use Rattle.cx_grammar.specs.Names.{Context, concept_name}
-use Rattle.cx_grammar.specs.Types.{Numbered, Below, type_id}
+use Rattle.cx_grammar.specs.Types.{Numbered, Below, type_id, Named, type_place}
 use Rattle.cx_grammar.specs.Expressions.{levels}
-use Rattle.cx_grammar.specs.Statements.{Named, constraint, auto_behind, place_or}
-use Rattle.cx_grammar.specs.Declarations.{parameter_behind, type_place, typed_parameter, auto_parameter, const_parameter, parameter}
+use Rattle.cx_grammar.specs.Requires.{constraint}
+use Rattle.cx_grammar.specs.Statements.{auto_behind, place_or}
+use Rattle.cx_grammar.specs.Declarations.{parameter_behind, typed_parameter, auto_parameter, const_parameter, parameter}
 use Rattle.cx_grammar.specs.Printed.{IsAsPrinted, trees_of}
 use Rattle.cx_grammar.proofs.Printed.{Starts, token-Starts, first-Starts}
 use Rattle.cx_grammar_laws.specs.Printed.{maybe_named, typed_name, constrained_name, auto_name, printed_parameter}
@@ -59,9 +60,9 @@ module _ (b : Below) (c : Context) (n : ℕ) where
   unfolding auto_parameter
   plain-Same at before = behind_where (trees_of (auto_behind c at before None n)) (λ a. as_printed (behind-Printed c a.0.mark.at (OfAuto a.0, a.1)))
 
-module _ (depth : ℕ) (c : Context) (n : ℕ) where
+module _ (requires : Bool) (depth : ℕ) (c : Context) (n : ℕ) where
   abbrev b : Below
-  b = levels depth
+  b = levels requires depth
 
   with_autos : PrintedWhere Any any_name (parameter true b c n) (printed_parameter true b c n)
   unfolding parameter const_parameter printed_parameter
@@ -70,7 +71,7 @@ module _ (depth : ℕ) (c : Context) (n : ℕ) where
       (or_where (typed-Same b c n)
       (or_where (or_where (constrained-Same b c n None false) (plain-Same b c n None false))
       (behind_where (trees_of (token c.load (word (codes "const")))) (λ t. or_where (constrained-Same b c n (Some t.token.at) true) (plain-Same b c n (Some t.token.at) true)))))
-      (type_or_auto depth c n (typed_parameter c) any_name (constrained b c n) (plain b c n) (constrained-Starts b c n) (plain-Starts b c n) (constrained-starts b c n) (plain-starts b c n))
+      (type_or_auto requires depth c n (typed_parameter c) any_name (constrained b c n) (plain b c n) (constrained-Starts b c n) (plain-Starts b c n) (constrained-starts b c n) (plain-starts b c n))
 
   without_autos : PrintedWhere Any any_name (parameter false b c n) (printed_parameter false b c n)
   unfolding parameter const_parameter printed_parameter
@@ -81,7 +82,7 @@ module _ (depth : ℕ) (c : Context) (n : ℕ) where
       (second-Alike (First (word (codes "const"))) (token c.load (word (codes "const"))) (λ t.
       skip-Alike (λ p. false && concept_name c p) _ _ (λ ts k. no_kind _ (λ p. refl) ts)
       then skip-Alike (λ p. false && word (codes "auto") p) _ _ (λ ts k. no_kind _ (λ p. refl) ts))
-      then turned (const_first depth c n (typed_parameter c))))
+      then turned (const_first requires depth c n (typed_parameter c))))
       (printed_alike any_name
       (skip-Alike (λ p. false && concept_name c p) _ _ (λ ts k. no_kind _ (λ p. refl) ts)
       then skip-Alike (λ p. false && word (codes "auto") p) _ _ (λ ts k. no_kind _ (λ p. refl) ts))))

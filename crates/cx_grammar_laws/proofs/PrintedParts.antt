@@ -1,10 +1,11 @@
 -- What is made of productions that are as they are printed.
-use Rattle.std.proofs.Common.{◌≡◌, ◌⊎◌, inl, inr, ℕ, zero, suc, Bool, true, false, List, [], ◌∷◌, ◌++◌, refl, sym, ap, ◌∙◌, append_assoc}
+use Rattle.std.proofs.Common.{◌≡◌, ◌⊎◌, inl, inr, ℕ, zero, suc, Bool, true, false, ◌||◌, List, [], ◌∷◌, ◌++◌, refl, sym, ap, ◌∙◌, append_assoc}
 use Rattle.cx_grammar.specs.Pieces.{Piece}
 use Rattle.cx_grammar.specs.Production.{Production, give, ◌>>=◌, when, times, repeat, begins, Chosen}
 use Rattle.cx_grammar.specs.Printed.{Relation, trees_of, optional, IsAsPrinted}
-use Rattle.cx_grammar.proofs.Printed.{Starts, when_first, when_second, when_fronts, first_front, second_front}
+use Rattle.cx_grammar.proofs.Printed.{Starts, first-Starts, when_first, when_second, when_fronts, first_front, second_front, begins_none, no_other, neither}
 use Rattle.cx_grammar_laws.specs.PrintedRequires.{turns, any_number}
+use Rattle.cx_grammar_laws.proofs.Cases.{Apart}
 use Rattle.cx_grammar_laws.proofs.Relations.{chained}
 
 -- which alternative is read, and by which token
@@ -59,27 +60,31 @@ starts-Shut {A} {p} q r h s = record { shut = λ l ts behind x w. go (ts ++ behi
     front ts (inl e) = ap (λ (s : List Piece). begins q s) e
     front ts (inr e) = go ts e
 
+-- what goes on behind the first part does not stand there
 module _ {A B : Type 0} {p : Production A} {f : A → Production B} {g g' : Piece → Bool} {P : Relation A} {F : A → Relation B} where
-  pub then-Printed : IsAsPrinted p g P → ((x : A) → IsAsPrinted (f x) g' (F x)) → ((x : A) → Shut g (f x)) → IsAsPrinted (p >>= f) g' (chained P F)
-  then-Printed hp hf k = record { same_trees = λ l ts behind y h. (to l ts behind y h, from l ts behind y h); same_beginnings = λ l ts. (to_front l ts, from_front l ts) }
+  pub apart-Printed : IsAsPrinted p g P → ((x : A) → IsAsPrinted (f x) g' (F x)) → ((x : A) → Apart g' g (f x)) → IsAsPrinted (p >>= f) g' (chained P F)
+  apart-Printed hp hf k = record { same_trees = λ l ts behind y h. (to l ts behind y h, from l ts behind y h); same_beginnings = λ l ts. (to_front l ts, from_front l ts) }
     where
       to : (l : ℕ) (ts behind : List Piece) (y : B) → begins g' behind ≡ false → (p >>= f).whole l ts behind y → (chained P F).whole l ts behind y
-      to l ts behind y h (x, us, vs, e, w, v) = (x, us, vs, e, (hp.same_trees l us (vs ++ behind) x ((k x).shut l vs behind y v)).0 w, ((hf x).same_trees l vs behind y h).0 v)
+      to l ts behind y h (x, us, vs, e, w, v) = (x, us, vs, e, (hp.same_trees l us (vs ++ behind) x ((k x).trees l vs behind y h v)).0 w, ((hf x).same_trees l vs behind y h).0 v)
 
       from : (l : ℕ) (ts behind : List Piece) (y : B) → begins g' behind ≡ false → (chained P F).whole l ts behind y → (p >>= f).whole l ts behind y
       from l ts behind y h (x, us, vs, e, w, v) =
           let v' = ((hf x).same_trees l vs behind y h).1 v in
-          (x, us, vs, e, (hp.same_trees l us (vs ++ behind) x ((k x).shut l vs behind y v')).1 w, v')
+          (x, us, vs, e, (hp.same_trees l us (vs ++ behind) x ((k x).trees l vs behind y h v')).1 w, v')
 
       to_front : (l : ℕ) (ts : List Piece) → (p >>= f).front l ts → (chained P F).front l ts
       to_front l ts (inl v) = inl ((hp.same_beginnings l ts).0 v)
-      to_front l ts (inr (x, us, vs, e, w, v)) = inr (x, us, vs, e, (hp.same_trees l us vs x ((k x).shut_front l vs v)).0 w, ((hf x).same_beginnings l vs).0 v)
+      to_front l ts (inr (x, us, vs, e, w, v)) = inr (x, us, vs, e, (hp.same_trees l us vs x ((k x).beginnings l vs v)).0 w, ((hf x).same_beginnings l vs).0 v)
 
       from_front : (l : ℕ) (ts : List Piece) → (chained P F).front l ts → (p >>= f).front l ts
       from_front l ts (inl v) = inl ((hp.same_beginnings l ts).1 v)
       from_front l ts (inr (x, us, vs, e, w, v)) =
           let v' = ((hf x).same_beginnings l vs).1 v in
-          inr (x, us, vs, e, (hp.same_trees l us vs x ((k x).shut_front l vs v')).1 w, v')
+          inr (x, us, vs, e, (hp.same_trees l us vs x ((k x).beginnings l vs v')).1 w, v')
+
+  pub then-Printed : IsAsPrinted p g P → ((x : A) → IsAsPrinted (f x) g' (F x)) → ((x : A) → Shut g (f x)) → IsAsPrinted (p >>= f) g' (chained P F)
+  then-Printed hp hf k = apart-Printed hp hf (λ x. record { trees = λ l ts behind y h w. (k x).shut l ts behind y w; beginnings = (k x).shut_front })
 
 -- ... where the first part is printed as it stands
 pub behind-Printed : {A B : Type 0} (p : Production A) {f : A → Production B} {g : Piece → Bool} {F : A → Relation B} → ((x : A) → IsAsPrinted (f x) g (F x)) → IsAsPrinted (p >>= f) g (chained (trees_of p) F)
@@ -123,23 +128,46 @@ optional-Printed {A} q {a} x {P} s h = record { same_trees = λ l ts behind y n.
         ]
     from_front l ts (inr e) = nothing l ts e
 
--- a repetition goes on as long as the next token begins a turn
-module _ {A : Type 0} (q : Piece → Bool) {step : A → Production A} {S : A → Relation A} (s : (x : A) → Starts q (step x)) (h : (x : A) → IsAsPrinted (step x) never (S x)) where
-  turns_to : (n : ℕ) (x : A) (l : ℕ) (ts behind : List Piece) (y : A) → (times n q step x).whole l ts behind y → (m : ℕ) × (turns m S x).whole l ts behind y
-  turns_to zero x l ts behind y w = absurd w
-  turns_to (suc n) x l ts behind y w =
+-- A repetition goes on as long as the next token begins a turn. What goes on behind a turn begins none.
+module _ {A : Type 0} (q g : Piece → Bool) (apart : (t : Piece) → q t ≡ true → g t ≡ false) {step : A → Production A} {S : A → Relation A} (s : (x : A) → Starts q (step x)) (h : (x : A) → IsAsPrinted (step x) g (S x)) where
+  -- behind a turn stands another one, or what stands behind them all
+  behind_turn : (n : ℕ) (x : A) (l : ℕ) (ts behind : List Piece) (y : A) → begins g behind ≡ false → (times n q step x).whole l ts behind y → begins g (ts ++ behind) ≡ false
+  behind_turn zero x l ts behind y k w = absurd w
+  behind_turn (suc n) x l ts behind y k w =
+      elim (chosen q (step x >>= times n q step) (give x) l ts behind y w) [
+        | inl v ↦ no_other g q apart (ts ++ behind) ((first-Starts (times n q step) (s x)).begins_so l ts behind y v)
+        | inr v ↦ ap (λ (z : List Piece). begins g (z ++ behind)) v.1.0 ∙ k
+      ]
+
+  nothing_behind : (ts : List Piece) → ts ≡ [] → begins g ts ≡ false
+  nothing_behind ts e = ap (λ (z : List Piece). begins g z) e ∙ begins_none g
+
+  behind_front : (n : ℕ) (x : A) (l : ℕ) (ts : List Piece) → (times n q step x).front l ts → begins g ts ≡ false
+  behind_front zero x l ts e = nothing_behind ts e
+  behind_front (suc n) x l ts k =
+      elim (when_fronts q (step x >>= times n q step) (give x) l ts k) [
+        | inl v ↦ elim ((first-Starts (times n q step) (s x)).begun_so l ts v) [
+          | inl e ↦ nothing_behind ts e
+          | inr e ↦ no_other g q apart ts e
+        ]
+        | inr e ↦ nothing_behind ts e
+      ]
+
+  turns_to : (n : ℕ) (x : A) (l : ℕ) (ts behind : List Piece) (y : A) → begins g behind ≡ false → (times n q step x).whole l ts behind y → (m : ℕ) × (turns m S x).whole l ts behind y
+  turns_to zero x l ts behind y k w = absurd w
+  turns_to (suc n) x l ts behind y k w =
       elim (chosen q (step x >>= times n q step) (give x) l ts behind y w) [
         | inl v ↦
-            let r = turns_to n v.0 l v.2 behind y v.5 in
-            (suc r.0, (v.0, v.1, v.2, v.3, ((h x).same_trees l v.1 (v.2 ++ behind) v.0 (never_begins (v.2 ++ behind))).0 v.4, r.1))
+            let r = turns_to n v.0 l v.2 behind y k v.5 in
+            (suc r.0, (v.0, v.1, v.2, v.3, ((h x).same_trees l v.1 (v.2 ++ behind) v.0 (behind_turn n v.0 l v.2 behind y k v.5)).0 v.4, r.1))
         | inr v ↦ (0, v.1)
       ]
 
-  turns_from : (m : ℕ) (x : A) (l : ℕ) (ts behind : List Piece) (y : A) → begins q behind ≡ false → (turns m S x).whole l ts behind y → (n : ℕ) × (times n q step x).whole l ts behind y
-  turns_from zero x l ts behind y k w = (1, when_second q (step x >>= times 0 q step) (give x) l ts behind y (ap (λ (z : List Piece). begins q (z ++ behind)) w.0 ∙ k) w)
-  turns_from (suc m) x l ts behind y k (z, us, vs, e, w, v) =
-      let r = turns_from m z l vs behind y k v in
-      let w' = ((h x).same_trees l us (vs ++ behind) z (never_begins (vs ++ behind))).1 w in
+  turns_from : (m : ℕ) (x : A) (l : ℕ) (ts behind : List Piece) (y : A) → begins g behind ≡ false → begins q behind ≡ false → (turns m S x).whole l ts behind y → (n : ℕ) × (times n q step x).whole l ts behind y
+  turns_from zero x l ts behind y k o w = (1, when_second q (step x >>= times 0 q step) (give x) l ts behind y (ap (λ (z : List Piece). begins q (z ++ behind)) w.0 ∙ o) w)
+  turns_from (suc m) x l ts behind y k o (z, us, vs, e, w, v) =
+      let r = turns_from m z l vs behind y k o v in
+      let w' = ((h x).same_trees l us (vs ++ behind) z (behind_turn r.0 z l vs behind y k r.1)).1 w in
       (suc r.0, when_first q (step x >>= times r.0 q step) (give x) l ts behind y (sym (joined q ts us vs behind e) ∙ (s x).begins_so l us (vs ++ behind) z w') (z, us, vs, e, w', r.1))
 
   turns_to_front : (n : ℕ) (x : A) (l : ℕ) (ts : List Piece) → (times n q step x).front l ts → (m : ℕ) × (turns m S x).front l ts
@@ -149,7 +177,7 @@ module _ {A : Type 0} (q : Piece → Bool) {step : A → Production A} {S : A �
         | inl (inl v) ↦ (1, inl (((h x).same_beginnings l ts).0 v))
         | inl (inr v) ↦
             let r = turns_to_front n v.0 l v.2 v.5 in
-            (suc r.0, inr (v.0, v.1, v.2, v.3, ((h x).same_trees l v.1 v.2 v.0 (never_begins v.2)).0 v.4, r.1))
+            (suc r.0, inr (v.0, v.1, v.2, v.3, ((h x).same_trees l v.1 v.2 v.0 (behind_front n v.0 l v.2 v.5)).0 v.4, r.1))
         | inr e ↦ (0, e)
       ]
 
@@ -163,11 +191,21 @@ module _ {A : Type 0} (q : Piece → Bool) {step : A → Production A} {S : A �
       ]
   turns_from_front (suc m) x l ts (inr (z, us, vs, e, w, k)) =
       let r = turns_from_front m z l vs k in
-      let w' = ((h x).same_trees l us vs z (never_begins vs)).1 w in
+      let w' = ((h x).same_trees l us vs z (behind_front r.0 z l vs r.1)).1 w in
       (suc r.0, first_front q (step x >>= times r.0 q step) (give x) l ts (ap (λ (u : List Piece). begins q u) e ∙ (s x).begins_so l us vs z w') (inr (z, us, vs, e, w', r.1)))
 
-  pub repeat-Printed : (x : A) → IsAsPrinted (repeat q step x) q (any_number S x)
+  -- what goes on behind the turns
+  abbrev pub turns_go_on : Piece → Bool
+  turns_go_on t = g t || q t
+
+  pub repeat-Printed : (x : A) → IsAsPrinted (repeat q step x) turns_go_on (any_number S x)
   repeat-Printed x = record {
-    same_trees = λ l ts behind y k. (λ w. turns_to w.0 x l ts behind y w.1, λ w. turns_from w.0 x l ts behind y k w.1);
+    same_trees = λ l ts behind y o. let k = neither g q behind o in (λ w. turns_to w.0 x l ts behind y k.0 w.1, λ w. turns_from w.0 x l ts behind y k.0 k.1 w.1);
     same_beginnings = λ l ts. (λ k. turns_to_front k.0 x l ts k.1, λ k. turns_from_front k.0 x l ts k.1);
+  }
+
+  pub repeat-Apart : (x : A) → Apart turns_go_on g (repeat q step x)
+  repeat-Apart x = record {
+    trees = λ l ts behind y o w. behind_turn w.0 x l ts behind y (neither g q behind o).0 w.1;
+    beginnings = λ l ts k. behind_front k.0 x l ts k.1;
   }

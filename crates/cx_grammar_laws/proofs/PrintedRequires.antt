@@ -2,25 +2,24 @@
 use Rattle.std.proofs.Common.{◌≡◌, ◌⊎◌, inl, inr, ℕ, ◌+◌, Bool, true, false, ◌&&◌, ◌||◌, not, List, [], ◌∷◌, ◌++◌, codes, None, refl, sym, ap, ◌∙◌, subst, true≢false}
 use Rattle.std.specs.Str.{bytes_eq}
 use Rattle.cx_scope.specs.Frames.{entered}
-use Rattle.cx_tree.specs.Declarations.{ParameterTree}
 use Rattle.std.proofs.lemmas.Slice.Eq.{bytes_eq-Decides}
-use Rattle.cx_tree.specs.Trees.{TypeTree, CoreTree}
+use Rattle.cx_tree.specs.Trees.{ExprTree, RequiresTree, TypeTree, CoreTree, LocalTree, RequirementTree, CompoundRequirement, locals, requirements}
 use Rattle.cx_grammar.specs.Pieces.{Piece}
 use Rattle.cx_grammar.specs.Words.{word, punct}
 use Rattle.cx_grammar.specs.Production.{Production, give, ◌>>=◌, token, when, begins}
-use Rattle.cx_grammar.specs.Names.{Context, deeper, inside, class_name}
-use Rattle.cx_grammar.specs.Types.{Numbered, Placed, Below, numbered, as_type, class_core, type_name_core, head_core, qualified_names}
+use Rattle.cx_grammar.specs.Names.{Context, deeper, inside, class_name, with_names}
+use Rattle.cx_grammar.specs.Types.{Numbered, Placed, Below, numbered, as_type, class_core, type_name_core, head_core, qualified_names, Named}
 use Rattle.cx_grammar.specs.Expressions.{levels}
-use Rattle.cx_grammar.specs.Statements.{Named, with_names, is_not_closing}
+use Rattle.cx_grammar.specs.Requires.{is_not_closing, some_locals, maybe_locals, simple_requirement, maybe_names, required_type, type_requirement, maybe_constraint, compound_requirement, nested_requirement, requirement, more_requirement, some_requirements, requires_expr}
 use Rattle.cx_grammar.specs.Printed.{Relation, trees_of, or, IsAsPrinted}
 use Rattle.cx_grammar.proofs.Expressions.{levels-Grows}
 use Rattle.cx_grammar.proofs.Printed.{Starts, token-Starts, first-Starts, when_first, when_second, first_front, second_front, begins_none, no_other, neither}
-use Rattle.cx_grammar_laws.specs.Requires.{RequirementTree, CompoundRequirement, RequiresTree, simple_requirement, maybe_names, required_type, type_requirement, maybe_constraint, compound_requirement, nested_requirement, requirement, more_requirement, requirements, requires_parameters, requires_expr}
-use Rattle.cx_grammar_laws.specs.PrintedRequires.{qual, class_alone, printed_type_requirement, arrow_constraint, printed_compound_requirement, begins_no_expr, printed_requirement, another_requirement, printed_requirements, round_parameters, printed_requires_expr}
+use Rattle.cx_grammar_laws.specs.PrintedRequires.{qual, class_alone, printed_type_requirement, arrow_constraint, printed_compound_requirement, begins_no_expr, printed_requirement, another_requirement, printed_requirements, round_locals, printed_requires_expr}
 use Rattle.cx_grammar_laws.proofs.Starting.{Kind, no_brace, left_true, right_true, word_is, other_punct, expr-Starts, more_Starts, when-Starts}
 use Rattle.cx_grammar_laws.proofs.PrintedParts.{chosen, chosen_front, never, never_begins, never-Shut, joined, same-Printed, starts-Shut, then-Printed, behind-Printed, optional-Printed, repeat-Printed}
 use Rattle.cx_grammar_laws.proofs.Relations.{chained}
-use Rattle.cx_grammar_laws.proofs.RequiresLevels.{requirement-Grows}
+use Rattle.cx_grammar_laws.proofs.PrintedLocals.{before-Printed, some_locals-Printed}
+use Rattle.cx_grammar.proofs.Requires.{requirement-Grows}
 
 -- ---- a class template with arguments or without names behind it, and the name of a type
 
@@ -177,9 +176,9 @@ compound_requirement-Starts : (b : Below) (c : Context) (n : ℕ) → Starts (pu
 unfolding compound_requirement
 compound_requirement-Starts b c n = token-Starts _ _ _
 
-simple_requirement-Starts : (depth : ℕ) (c : Context) (n : ℕ) → Starts no_brace (simple_requirement (levels depth) c n)
+simple_requirement-Starts : (requires : Bool) (depth : ℕ) (c : Context) (n : ℕ) → Starts no_brace (simple_requirement (levels requires depth) c n)
 unfolding simple_requirement
-simple_requirement-Starts depth c n = first-Starts _ (expr-Starts depth (deeper c) n)
+simple_requirement-Starts requires depth c n = first-Starts _ (expr-Starts requires depth (deeper c) n)
 
 -- ... are apart
 worded : (text : List ℕ) (t : Piece) → word text t ≡ true → t.token.text ≡ text
@@ -224,23 +223,23 @@ word-Kind text = record { kind = λ t e. go t (punct (codes "}") t) refl e }
 brace-Kind : Kind (punct (codes "{")) is_not_closing
 brace-Kind = record { kind = λ t e. ap not (other_punct (codes "{") (codes "}") refl t e) }
 
-requirement-Starts : (depth : ℕ) (c : Context) (n : ℕ) → Starts is_not_closing (requirement (levels depth) c n)
+requirement-Starts : (requires : Bool) (depth : ℕ) (c : Context) (n : ℕ) → Starts is_not_closing (requirement (levels requires depth) c n)
 unfolding requirement
-requirement-Starts depth c n = when-Starts _ (more_Starts (word-Kind _) (type_requirement-Starts (levels depth) c n)) (when-Starts _ (more_Starts (word-Kind _) (nested_requirement-Starts (levels depth) c n))
-    (when-Starts _ (more_Starts brace-Kind (compound_requirement-Starts (levels depth) c n)) (more_Starts no_closing-Kind (simple_requirement-Starts depth c n))))
+requirement-Starts requires depth c n = when-Starts _ (more_Starts (word-Kind _) (type_requirement-Starts (levels requires depth) c n)) (when-Starts _ (more_Starts (word-Kind _) (nested_requirement-Starts (levels requires depth) c n))
+    (when-Starts _ (more_Starts brace-Kind (compound_requirement-Starts (levels requires depth) c n)) (more_Starts no_closing-Kind (simple_requirement-Starts requires depth c n))))
 
-module _ (depth : ℕ) (c : Context) (n : ℕ) where
+module _ (requires : Bool) (depth : ℕ) (c : Context) (n : ℕ) where
   abbrev typed : Production (Numbered RequirementTree)
-  typed = type_requirement (levels depth) c n
+  typed = type_requirement (levels requires depth) c n
 
   abbrev nested : Production (Numbered RequirementTree)
-  nested = nested_requirement (levels depth) c n
+  nested = nested_requirement (levels requires depth) c n
 
   abbrev compound : Production (Numbered RequirementTree)
-  compound = compound_requirement (levels depth) c n
+  compound = compound_requirement (levels requires depth) c n
 
   abbrev simple : Production (Numbered RequirementTree)
-  simple = simple_requirement (levels depth) c n
+  simple = simple_requirement (levels requires depth) c n
 
   -- the alternatives behind the first one and behind the second one
   abbrev third : Production (Numbered RequirementTree)
@@ -254,77 +253,77 @@ module _ (depth : ℕ) (c : Context) (n : ℕ) where
   both_none [] e d = refl
   both_none (t ∷ ts) e d = ap (λ (x : Bool). x || word (codes "requires") t) e ∙ d
 
-  to : (l : ℕ) (ts behind : List Piece) (y : Numbered RequirementTree) → (requirement (levels depth) c n).whole l ts behind y → (printed_requirement (levels depth) c n).whole l ts behind y
+  to : (l : ℕ) (ts behind : List Piece) (y : Numbered RequirementTree) → (requirement (levels requires depth) c n).whole l ts behind y → (printed_requirement (levels requires depth) c n).whole l ts behind y
   unfolding requirement printed_requirement
   to l ts behind y w =
       elim (chosen (word (codes "typename")) typed second l ts behind y w) [
-        | inl v ↦ inl (((type_requirement-Printed (levels depth) c n).same_trees l ts behind y (never_begins behind)).0 v)
+        | inl v ↦ inl (((type_requirement-Printed (levels requires depth) c n).same_trees l ts behind y (never_begins behind)).0 v)
         | inr v ↦ elim (chosen (word (codes "requires")) nested third l ts behind y v.1) [
           | inl u ↦ inr (inl u)
           | inr u ↦ elim (chosen (punct (codes "{")) compound simple l ts behind y u.1) [
-            | inl z ↦ inr (inr (inl (((compound_requirement-Printed (levels depth) c n).same_trees l ts behind y (never_begins behind)).0 z)))
+            | inl z ↦ inr (inr (inl (((compound_requirement-Printed (levels requires depth) c n).same_trees l ts behind y (never_begins behind)).0 z)))
             | inr z ↦ inr (inr (inr (both_none (ts ++ behind) v.0 u.0, z.1)))
           ]
         ]
       ]
 
-  from : (l : ℕ) (ts behind : List Piece) (y : Numbered RequirementTree) → (printed_requirement (levels depth) c n).whole l ts behind y → (requirement (levels depth) c n).whole l ts behind y
+  from : (l : ℕ) (ts behind : List Piece) (y : Numbered RequirementTree) → (printed_requirement (levels requires depth) c n).whole l ts behind y → (requirement (levels requires depth) c n).whole l ts behind y
   unfolding requirement printed_requirement
   from l ts behind y (inl w) =
-      let v = ((type_requirement-Printed (levels depth) c n).same_trees l ts behind y (never_begins behind)).1 w in
-      when_first (word (codes "typename")) typed second l ts behind y ((type_requirement-Starts (levels depth) c n).begins_so l ts behind y v) v
+      let v = ((type_requirement-Printed (levels requires depth) c n).same_trees l ts behind y (never_begins behind)).1 w in
+      when_first (word (codes "typename")) typed second l ts behind y ((type_requirement-Starts (levels requires depth) c n).begins_so l ts behind y v) v
   from l ts behind y (inr (inl w)) =
-      let e = (nested_requirement-Starts (levels depth) c n).begins_so l ts behind y w in
+      let e = (nested_requirement-Starts (levels requires depth) c n).begins_so l ts behind y w in
       when_second (word (codes "typename")) typed second l ts behind y (no_other (word (codes "typename")) (word (codes "requires")) (other_word (codes "requires") (codes "typename") refl) (ts ++ behind) e)
       (when_first (word (codes "requires")) nested third l ts behind y e w)
   from l ts behind y (inr (inr (inl w))) =
-      let v = ((compound_requirement-Printed (levels depth) c n).same_trees l ts behind y (never_begins behind)).1 w in
-      let e = (compound_requirement-Starts (levels depth) c n).begins_so l ts behind y v in
+      let v = ((compound_requirement-Printed (levels requires depth) c n).same_trees l ts behind y (never_begins behind)).1 w in
+      let e = (compound_requirement-Starts (levels requires depth) c n).begins_so l ts behind y v in
       when_second (word (codes "typename")) typed second l ts behind y (no_other (word (codes "typename")) (punct (codes "{")) (punct_word (codes "{") (codes "typename")) (ts ++ behind) e)
       (when_second (word (codes "requires")) nested third l ts behind y (no_other (word (codes "requires")) (punct (codes "{")) (punct_word (codes "{") (codes "requires")) (ts ++ behind) e)
       (when_first (punct (codes "{")) compound simple l ts behind y e v))
   from l ts behind y (inr (inr (inr (none, w)))) =
-      let e = (simple_requirement-Starts depth c n).begins_so l ts behind y w in
+      let e = (simple_requirement-Starts requires depth c n).begins_so l ts behind y w in
       let k = neither (word (codes "typename")) (word (codes "requires")) (ts ++ behind) none in
       when_second (word (codes "typename")) typed second l ts behind y k.0
       (when_second (word (codes "requires")) nested third l ts behind y k.1
       (when_second (punct (codes "{")) compound simple l ts behind y (no_other (punct (codes "{")) no_brace brace_first (ts ++ behind) e) w))
 
-  to_front : (l : ℕ) (ts : List Piece) → (requirement (levels depth) c n).front l ts → (printed_requirement (levels depth) c n).front l ts
+  to_front : (l : ℕ) (ts : List Piece) → (requirement (levels requires depth) c n).front l ts → (printed_requirement (levels requires depth) c n).front l ts
   unfolding requirement printed_requirement
   to_front l ts w =
       elim (chosen_front (word (codes "typename")) typed second l ts w) [
-        | inl v ↦ inl (((type_requirement-Printed (levels depth) c n).same_beginnings l ts).0 v)
+        | inl v ↦ inl (((type_requirement-Printed (levels requires depth) c n).same_beginnings l ts).0 v)
         | inr v ↦ elim (chosen_front (word (codes "requires")) nested third l ts v.1) [
           | inl u ↦ inr (inl u)
           | inr u ↦ elim (chosen_front (punct (codes "{")) compound simple l ts u.1) [
-            | inl z ↦ inr (inr (inl (((compound_requirement-Printed (levels depth) c n).same_beginnings l ts).0 z)))
+            | inl z ↦ inr (inr (inl (((compound_requirement-Printed (levels requires depth) c n).same_beginnings l ts).0 z)))
             | inr z ↦ inr (inr (inr (both_none ts v.0 u.0, z.1)))
           ]
         ]
       ]
 
   -- no token is a beginning
-  nothing : (l : ℕ) (ts : List Piece) → ts ≡ [] → (requirement (levels depth) c n).front l ts
-  nothing l ts e = subst (λ (s : List Piece). (requirement (levels depth) c n).front l s) (sym e) ((requirement-Grows (levels-Grows depth) c n).low.starts l)
+  nothing : (l : ℕ) (ts : List Piece) → ts ≡ [] → (requirement (levels requires depth) c n).front l ts
+  nothing l ts e = subst (λ (s : List Piece). (requirement (levels requires depth) c n).front l s) (sym e) ((requirement-Grows (levels-Grows depth) c n).low.starts l)
 
-  from_front : (l : ℕ) (ts : List Piece) → (printed_requirement (levels depth) c n).front l ts → (requirement (levels depth) c n).front l ts
+  from_front : (l : ℕ) (ts : List Piece) → (printed_requirement (levels requires depth) c n).front l ts → (requirement (levels requires depth) c n).front l ts
   unfolding requirement printed_requirement
   from_front l ts (inl w) =
-      let v = ((type_requirement-Printed (levels depth) c n).same_beginnings l ts).1 w in
-      elim ((type_requirement-Starts (levels depth) c n).begun_so l ts v) [
+      let v = ((type_requirement-Printed (levels requires depth) c n).same_beginnings l ts).1 w in
+      elim ((type_requirement-Starts (levels requires depth) c n).begun_so l ts v) [
         | inl e ↦ nothing l ts e
         | inr e ↦ first_front (word (codes "typename")) typed second l ts e v
       ]
   from_front l ts (inr (inl w)) =
-      elim ((nested_requirement-Starts (levels depth) c n).begun_so l ts w) [
+      elim ((nested_requirement-Starts (levels requires depth) c n).begun_so l ts w) [
         | inl e ↦ nothing l ts e
         | inr e ↦ second_front (word (codes "typename")) typed second l ts (no_other (word (codes "typename")) (word (codes "requires")) (other_word (codes "requires") (codes "typename") refl) ts e)
             (first_front (word (codes "requires")) nested third l ts e w)
       ]
   from_front l ts (inr (inr (inl w))) =
-      let v = ((compound_requirement-Printed (levels depth) c n).same_beginnings l ts).1 w in
-      elim ((compound_requirement-Starts (levels depth) c n).begun_so l ts v) [
+      let v = ((compound_requirement-Printed (levels requires depth) c n).same_beginnings l ts).1 w in
+      elim ((compound_requirement-Starts (levels requires depth) c n).begun_so l ts v) [
         | inl e ↦ nothing l ts e
         | inr e ↦ second_front (word (codes "typename")) typed second l ts (no_other (word (codes "typename")) (punct (codes "{")) (punct_word (codes "{") (codes "typename")) ts e)
             (second_front (word (codes "requires")) nested third l ts (no_other (word (codes "requires")) (punct (codes "{")) (punct_word (codes "{") (codes "requires")) ts e)
@@ -332,14 +331,14 @@ module _ (depth : ℕ) (c : Context) (n : ℕ) where
       ]
   from_front l ts (inr (inr (inr (none, w)))) =
       let k = neither (word (codes "typename")) (word (codes "requires")) ts none in
-      elim ((simple_requirement-Starts depth c n).begun_so l ts w) [
+      elim ((simple_requirement-Starts requires depth c n).begun_so l ts w) [
         | inl e ↦ nothing l ts e
         | inr e ↦ second_front (word (codes "typename")) typed second l ts k.0
             (second_front (word (codes "requires")) nested third l ts k.1
             (second_front (punct (codes "{")) compound simple l ts (no_other (punct (codes "{")) no_brace brace_first ts e) w))
       ]
 
-  pub requirement-Printed : IsAsPrinted (requirement (levels depth) c n) never (printed_requirement (levels depth) c n)
+  pub requirement-Printed : IsAsPrinted (requirement (levels requires depth) c n) never (printed_requirement (levels requires depth) c n)
   requirement-Printed = record {
     same_trees = λ l ts behind y h. (λ w. to l ts behind y w, λ w. from l ts behind y w);
     same_beginnings = λ l ts. (λ k. to_front l ts k, λ k. from_front l ts k);
@@ -347,38 +346,45 @@ module _ (depth : ℕ) (c : Context) (n : ℕ) where
 
 -- ---- requires-expressions
 
-module _ (depth : ℕ) where
-  more_requirement-Printed : (c : Context) (x : Numbered (List RequirementTree)) → IsAsPrinted (more_requirement (levels depth) c x) never (another_requirement (levels depth) c x)
-  more_requirement-Printed c x = then-Printed (requirement-Printed depth c x.1) (λ r. same-Printed _ never) (λ r. never-Shut _)
+module _ (requires : Bool) (depth : ℕ) where
+  more_requirement-Printed : (c : Context) (x : Numbered (List RequirementTree)) → IsAsPrinted (more_requirement (levels requires depth) c x) never (another_requirement (levels requires depth) c x)
+  more_requirement-Printed c x = then-Printed (requirement-Printed requires depth c x.1) (λ r. same-Printed _ never) (λ r. never-Shut _)
 
-  more_requirement-Starts : (c : Context) (x : Numbered (List RequirementTree)) → Starts is_not_closing (more_requirement (levels depth) c x)
-  more_requirement-Starts c x = first-Starts _ (requirement-Starts depth c x.1)
+  more_requirement-Starts : (c : Context) (x : Numbered (List RequirementTree)) → Starts is_not_closing (more_requirement (levels requires depth) c x)
+  more_requirement-Starts c x = first-Starts _ (requirement-Starts requires depth c x.1)
 
-  requirements-Printed : (c : Context) (n : ℕ) → IsAsPrinted (requirements (levels depth) c n) is_not_closing (printed_requirements (levels depth) c n)
-  unfolding requirements
-  requirements-Printed c n = then-Printed (requirement-Printed depth c n) (λ first. repeat-Printed is_not_closing (more_requirement-Starts c) (more_requirement-Printed c) (first.0 ∷ [], first.1)) (λ first. never-Shut _)
+  requirements-Printed : (c : Context) (n : ℕ) → IsAsPrinted (some_requirements (levels requires depth) c n) is_not_closing (printed_requirements (levels requires depth) c n)
+  unfolding some_requirements
+  requirements-Printed c n = then-Printed (requirement-Printed requires depth c n) (λ first. repeat-Printed is_not_closing never (λ t e. refl) (more_requirement-Starts c) (more_requirement-Printed c) (first.0 ∷ [], first.1)) (λ first. never-Shut _)
 
-module _ (depth : ℕ) (c : Context) (n : ℕ) where
-  requires_parameters-Printed : (c : Context) → IsAsPrinted (requires_parameters (levels depth) c n) (punct (codes "(")) (or (round_parameters (levels depth) c n) (trees_of (give ([], n, c.names))))
-  unfolding requires_parameters
-  requires_parameters-Printed c = optional-Printed (punct (codes "(")) ([], n, c.names) (token-Starts _ _ _) (same-Printed _ _)
+module _ (requires : Bool) (depth : ℕ) (c : Context) (n : ℕ) where
+  -- parameters, behind which a `)` stands
+  abbrev closed_locals : Context → Production (Named (List LocalTree))
+  closed_locals c = some_locals (levels requires depth) (inside c) n >>= λ ps. (token (c.load + 1) (punct (codes ")")) >>= λ u. give ps)
+
+  round_locals-Printed : (c : Context) → IsAsPrinted (token (c.load + 1) (punct (codes "(")) >>= λ t. closed_locals c) (punct (codes "(")) (round_locals (levels requires depth) c n)
+  round_locals-Printed c = behind-Printed (token (c.load + 1) (punct (codes "("))) (λ t. before-Printed (some_locals-Printed requires depth (inside c) n) (λ ps. token-Starts (c.load + 1) (punct (codes ")")) (λ u. give ps)) (punct (codes "(")))
+
+  maybe_locals-Printed : (c : Context) → IsAsPrinted (maybe_locals (levels requires depth) c n) (punct (codes "(")) (or (round_locals (levels requires depth) c n) (trees_of (give ([], n, c.names))))
+  unfolding maybe_locals
+  maybe_locals-Printed c = optional-Printed (punct (codes "(")) ([], n, c.names) (token-Starts _ _ _) (round_locals-Printed c)
 
   -- what stands behind the requirements, and behind the parameters
-  abbrev ending : Piece → Named (List ParameterTree) → Numbered (List RequirementTree) → Production (Numbered RequiresTree)
-  ending t ps rs = token (c.load + 1) (punct (codes "}")) >>= λ u. give (record { mark = numbered rs.1 t.token.at; parameters = ps.0; requirements = rs.0 }, rs.1 + 1)
+  abbrev ending : Piece → Named (List LocalTree) → Numbered (List RequirementTree) → Production (Numbered ExprTree)
+  ending t ps rs = token (c.load + 1) (punct (codes "}")) >>= λ u. give (RequiresTree (numbered rs.1 t.token.at) (locals ps.0) (requirements rs.0), rs.1 + 1)
 
-  abbrev within : Piece → Named (List ParameterTree) → Production (Numbered RequiresTree)
-  within t ps = requirements (levels depth) (inside (with_names c ps.2)) ps.1 >>= ending t ps
+  abbrev within : Piece → Named (List LocalTree) → Production (Numbered ExprTree)
+  within t ps = some_requirements (levels requires depth) (inside (with_names c ps.2)) ps.1 >>= ending t ps
 
-  within-Printed : (t : Piece) (ps : Named (List ParameterTree)) → IsAsPrinted (within t ps) never (chained (printed_requirements (levels depth) (inside (with_names c ps.2)) ps.1) (λ rs. trees_of (ending t ps rs)))
-  within-Printed t ps = then-Printed (requirements-Printed depth (inside (with_names c ps.2)) ps.1) (λ rs. same-Printed (ending t ps rs) never)
-      (λ rs. starts-Shut is_not_closing (punct (codes "}")) closing (token-Starts (c.load + 1) (punct (codes "}")) (λ u. give (record { mark = numbered rs.1 t.token.at; parameters = ps.0; requirements = rs.0 }, rs.1 + 1))))
+  within-Printed : (t : Piece) (ps : Named (List LocalTree)) → IsAsPrinted (within t ps) never (chained (printed_requirements (levels requires depth) (inside (with_names c ps.2)) ps.1) (λ rs. trees_of (ending t ps rs)))
+  within-Printed t ps = then-Printed (requirements-Printed requires depth (inside (with_names c ps.2)) ps.1) (λ rs. same-Printed (ending t ps rs) never)
+      (λ rs. starts-Shut is_not_closing (punct (codes "}")) closing (token-Starts (c.load + 1) (punct (codes "}")) (λ u. give (RequiresTree (numbered rs.1 t.token.at) (locals ps.0) (requirements rs.0), rs.1 + 1))))
     where
       closing : (t : Piece) → punct (codes "}") t ≡ true → is_not_closing t ≡ false
       closing t e = ap not e
 
-  pub requires_expr-Printed : IsAsPrinted (requires_expr (levels depth) c n) never (printed_requires_expr (levels depth) c n)
+  pub requires_expr-Printed : IsAsPrinted (requires_expr (levels requires depth) c n) never (printed_requires_expr (levels requires depth) c n)
   unfolding requires_expr printed_requires_expr
-  requires_expr-Printed = behind-Printed (token c.load (word (codes "requires"))) (λ t. then-Printed (requires_parameters-Printed (with_names c (entered c.names)))
+  requires_expr-Printed = behind-Printed (token c.load (word (codes "requires"))) (λ t. then-Printed (maybe_locals-Printed (with_names c (entered c.names)))
       (λ ps. behind-Printed (token (c.load + 1) (punct (codes "{"))) (λ o. within-Printed t ps))
       (λ ps. starts-Shut (punct (codes "(")) (punct (codes "{")) (other_punct (codes "{") (codes "(") refl) (token-Starts (c.load + 1) (punct (codes "{")) (λ o. within t ps))))

@@ -7,9 +7,10 @@ use Rattle.cx_lexer.specs.declared.token.TokenKind.TheVariants as kind
 use Rattle.cx_scope.specs.declared.name_kind.NameKind.{NameKind}
 use Rattle.cx_grammar.specs.Pieces.{Piece}
 use Rattle.cx_grammar.specs.Words.{is_punct_kind, is_word_kind, is_name_kind, is_int_kind, spelling, word, punct, any_name, literal_token}
-use Rattle.cx_grammar.specs.Production.{Production, ◌>>=◌, token, when, closed, unbuilt, begins, Chosen}
+use Rattle.cx_grammar.specs.Production.{Production, ◌>>=◌, token, when, given, closed, unread, begins, Chosen}
 use Rattle.cx_grammar.specs.Names.{Context, kind_name}
 use Rattle.cx_grammar.specs.Types.{Below, one_word, word_core, long_core, scalar_core, class_core, type_name_core, head_core, member_core, decltype_core, void_core, scalar_only, core}
+use Rattle.cx_grammar.specs.Requires.{requires_expr, maybe_requires}
 use Rattle.cx_grammar.specs.Expressions.{levels, literal, truth, group, static_cast, is_same, out, headed, cored, word_list, name_alone, named, worded, simple_primary, primary, postfix, is_prefix, is_step, prefixed, unary, expr}
 use Rattle.cx_grammar.proofs.Printed.{Starts, token-Starts, first-Starts}
 
@@ -144,10 +145,14 @@ when-Starts {A} p {q} {a} {b} ha hb = record { begins_so = λ l ts behind y w. w
 closed-Starts : {A : Type 0} {q : Piece → Bool} → Starts q (closed {A = A})
 closed-Starts = record { begins_so = λ l ts behind y w. absurd w; begun_so = λ l ts k. inl k }
 
-unbuilt-Starts : {A : Type 0} {q : Piece → Bool} → Starts q (unbuilt {A = A})
-unbuilt-Starts = record { begins_so = λ l ts behind y w. absurd w; begun_so = λ l ts k. inl k }
+unread-Starts : {A : Type 0} (p : Piece → Bool) {q : Piece → Bool} → Starts q (unread {A = A} p)
+unread-Starts p = record { begins_so = λ l ts behind y w. absurd w; begun_so = λ l ts k. inl k }
 
-ruleset beginning = (of_token, first-Starts, when-Starts, unbuilt-Starts, word-Kind, any_name-Kind, kind_name-Kind, literal_token-Kind, one_word-Kind, is_prefix-Kind, open_round-Kind)
+given-Starts : {A : Type 0} (is : Bool) {q : Piece → Bool} {a b : Production A} → Starts q a → Starts q b → Starts q (given is a b)
+given-Starts true ha hb = ha
+given-Starts false ha hb = hb
+
+ruleset beginning = (of_token, first-Starts, when-Starts, given-Starts, unread-Starts, word-Kind, any_name-Kind, kind_name-Kind, literal_token-Kind, one_word-Kind, is_prefix-Kind, open_round-Kind)
 
 module _ (b : Below) (c : Context) (n : ℕ) where
   class_core-Starts : Starts no_brace (class_core b c n)
@@ -182,10 +187,10 @@ module _ (b : Below) (c : Context) (n : ℕ) where
   unfolding core
   core-Starts = when-Starts _ head_core-Starts (when-Starts _ member_core-Starts (when-Starts _ decltype_core-Starts (when-Starts _ void_core-Starts scalar_only-Starts)))
 
-pub level_core-Starts : (depth : ℕ) (c : Context) (n : ℕ) → Starts no_brace ((levels depth).core c n)
+pub level_core-Starts : (requires : Bool) (depth : ℕ) (c : Context) (n : ℕ) → Starts no_brace ((levels requires depth).core c n)
 unfolding levels
-level_core-Starts zero c n = closed-Starts
-level_core-Starts (suc depth) c n = core-Starts (levels depth) c n
+level_core-Starts requires zero c n = closed-Starts
+level_core-Starts requires (suc depth) c n = core-Starts (levels requires depth) c n
 
 module _ (b : Below) (cores : (c : Context) (n : ℕ) → Starts no_brace (b.core c n)) (c : Context) (n : ℕ) where
   headed-Starts : Starts no_brace (headed b c n)
@@ -204,9 +209,14 @@ module _ (b : Below) (cores : (c : Context) (n : ℕ) → Starts no_brace (b.cor
   unfolding static_cast
   static_cast-Starts = search beginning depth 5
 
+  -- a requires-expression begins with its word, whether it is read or not
+  maybe_requires-Starts : Starts no_brace (maybe_requires b c n)
+  unfolding maybe_requires requires_expr
+  maybe_requires-Starts = search beginning depth 5
+
   worded-Starts : Starts no_brace (worded b c n)
   unfolding worded truth is_same out group
-  worded-Starts = search beginning depth 9
+  worded-Starts = search (beginning, maybe_requires-Starts) depth 9
 
   simple_primary-Starts : Starts no_brace (simple_primary b c n)
   unfolding simple_primary literal named name_alone
@@ -221,7 +231,7 @@ module _ (b : Below) (cores : (c : Context) (n : ℕ) → Starts no_brace (b.cor
   expr_of-Starts = first-Starts _ (when-Starts _ (of_token _ _ is_prefix-Kind) (first-Starts _ primary-Starts))
 
 -- An expression begins with no brace.
-pub expr-Starts : (depth : ℕ) (c : Context) (n : ℕ) → Starts no_brace ((levels depth).expr c n)
+pub expr-Starts : (requires : Bool) (depth : ℕ) (c : Context) (n : ℕ) → Starts no_brace ((levels requires depth).expr c n)
 unfolding levels
-expr-Starts zero c n = closed-Starts
-expr-Starts (suc depth) c n = expr_of-Starts (levels depth) (level_core-Starts depth) c n
+expr-Starts requires zero c n = closed-Starts
+expr-Starts requires (suc depth) c n = expr_of-Starts (levels requires depth) (level_core-Starts requires depth) c n

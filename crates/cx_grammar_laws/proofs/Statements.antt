@@ -3,15 +3,16 @@ use Rattle.std.proofs.Common.{◌≡◌, inl, ℕ, zero, suc, ◌+◌, Bool, tru
 use Rattle.cx_scope.specs.declared.name_kind.NameKind.{NameKind}
 use Rattle.cx_scope.specs.declared.name_kind.NameKind.TheVariants.{Value, TypeName, ClassTemplate, Function, FunctionTemplate, Concept}
 use Rattle.cx_scope.specs.Frames.{kind_in}
-use Rattle.cx_tree.specs.Trees.{Mark, ExprTree, TemplateTree, TypeTree, CoreTree, ArgumentTree, TypeArgument, ValueArgument, arguments}
-use Rattle.cx_tree.specs.Statements.{ConstraintTree, StmtTree, ExprStmt}
+use Rattle.cx_tree.specs.Trees.{Mark, ExprTree, TemplateTree, TypeTree, CoreTree, ArgumentTree, TypeArgument, ValueArgument, arguments, ConstraintTree}
+use Rattle.cx_tree.specs.Statements.{StmtTree, ExprStmt}
 use Rattle.cx_grammar.specs.Pieces.{Piece}
 use Rattle.cx_grammar.specs.Production.{Production, give, ◌>>=◌, token, when, begins}
 use Rattle.cx_grammar.specs.Words.{word, punct, any_name, literal_token}
 use Rattle.cx_grammar.specs.Names.{Context, deeper, is_kind, same_kind, kind_name, concept_name, template_name}
-use Rattle.cx_grammar.specs.Types.{Numbered, Placed, Calling, MayCall, Below, numbered, type_behind, scalar_behind, placed_scalar, one_word, argument_list, some_arguments, more_argument}
+use Rattle.cx_grammar.specs.Types.{Numbered, Placed, Calling, MayCall, Below, numbered, type_behind, scalar_behind, placed_scalar, one_word, argument_list, some_arguments, more_argument, Named}
 use Rattle.cx_grammar.specs.Expressions.{levels, place_of, goes_on, head_name, core_word, is_prefix, is_step, is_operator, is_assignment, operator_of, operator, named, primary, simple_primary, member, step, call, tail_behind, tail, binary_chain, binary_rest, rests, conditional, assignment, expr_behind}
-use Rattle.cx_grammar.specs.Statements.{Named, with_arguments, concept_expr, variable_behind, constraint, auto_behind, variable_of, variable_of_auto, expr_stmt_of, core_stmt, head_stmt, word_stmt, typed_variable, constrained_auto, plain_auto, const_variable, variable, concept_stmt, expr_stmt, open_stmt}
+use Rattle.cx_grammar.specs.Requires.{constraint}
+use Rattle.cx_grammar.specs.Statements.{with_arguments, concept_expr, variable_behind, auto_behind, variable_of, variable_of_auto, expr_stmt_of, core_stmt, head_stmt, word_stmt, typed_variable, constrained_auto, plain_auto, const_variable, variable, concept_stmt, expr_stmt, open_stmt}
 use Rattle.cx_grammar.specs.Printed.{IsAsPrinted, trees_of, or}
 use Rattle.cx_grammar.proofs.Lawful.{Lawful}
 use Rattle.cx_grammar.proofs.Combinators.{then-Lawful}
@@ -263,11 +264,11 @@ pub auto_behind-Starts : (c : Context) (at : Option Rattle.cx_base.specs.declare
 unfolding auto_behind
 auto_behind-Starts c at before k n = token-Starts _ _ _
 
-module _ (depth : ℕ) (c : Context) (n : ℕ) where
+module _ (requires : Bool) (depth : ℕ) (c : Context) (n : ℕ) where
   abbrev b : Below
-  b = levels (suc depth)
+  b = levels requires (suc depth)
 
-  alone : BelowAlone b
+  alone : BelowAlone requires b
   alone = levels-Alone (suc depth)
 
   abbrev core-Production : Production (Numbered (Placed CoreTree))
@@ -298,7 +299,7 @@ module _ (depth : ℕ) (c : Context) (n : ℕ) where
   V-Starts : Starts (variable_first c) V
   unfolding variable typed_variable
   V-Starts =
-      chosen-Starts (word (codes "const")) _ _ (chosen-Starts (concept_name c) _ _ (chosen-Starts (word (codes "auto")) _ _ (first-Starts (variable_of b c false) (type-Starts (suc depth) c n))))
+      chosen-Starts (word (codes "const")) _ _ (chosen-Starts (concept_name c) _ _ (chosen-Starts (word (codes "auto")) _ _ (first-Starts (variable_of b c false) (type-Starts requires (suc depth) c n))))
 
   no_expr : {W : Where} → ((ts : List Piece) → W ts → begins (expr_first c) ts ≡ false) → Idle W (trees_of X) (trees_of V)
   no_expr h = starts-Idle (expr_first c) X-Starts h V-starts
@@ -310,7 +311,7 @@ module _ (depth : ℕ) (c : Context) (n : ℕ) where
   abbrev behind_type : Numbered (Placed CoreTree) → Production (Named StmtTree)
   behind_type k = type_behind c k.0.0 false (k.0.1, k.1) >>= (λ t. variable_of b c false t)
 
-  behind_type-Lawful : (k : Numbered (Placed CoreTree)) → Lawful (behind_type k)
+  behind_type-Lawful : (k : Numbered (Placed CoreTree)) → Lawful requires (behind_type k)
   behind_type-Lawful k = then-Lawful (type_behind-Alone c k.0.0 false (k.0.1, k.1)).lawful (λ t. (variable_of-Alone alone c false t).lawful)
 
   behind_type-Filled : (k : Numbered (Placed CoreTree)) → Filled (behind_type k)
@@ -401,7 +402,7 @@ module _ (depth : ℕ) (c : Context) (n : ℕ) where
   unfolding levels
   word_variable =
       typed (never_begins one_word_const) (never_begins (one_word_concept c)) (never_begins one_word_auto)
-      then word_type (levels depth) (deeper c) n behind_type (λ k l. (behind_type-Lawful k).starts l)
+      then word_type (levels requires depth) (deeper c) n behind_type (λ k l. (behind_type-Lawful k).starts l)
 
   word_case : IsPrinted (First one_word) (word_stmt b c n)
   unfolding word_stmt expr_stmt expr_stmt_of

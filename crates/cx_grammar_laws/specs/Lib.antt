@@ -1,4 +1,4 @@
 pub mod NodeLaws
-pub mod Requires
+pub mod RequirementNodes
 pub mod PrintedRequires
 pub mod Printed

@@ -6,7 +6,7 @@ use Rattle.cx_tree.specs.Trees.{Mark}
 use Rattle.cx_tree.specs.Declarations.{DeclTree}
 use Rattle.cx_tree.specs.Nodes.{IsNumberedFrom}
 use Rattle.cx_grammar.specs.Pieces.{Piece, pieces}
-use Rattle.cx_grammar.specs.Statements.{Named}
+use Rattle.cx_grammar.specs.Types.{Named}
 use Rattle.cx_grammar.specs.Laws.{Levelled, IsTree}
 use Rattle.cx_tree.specs.UnitNodes.{unit_nodes}
 

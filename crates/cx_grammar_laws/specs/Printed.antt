@@ -11,10 +11,11 @@ use Rattle.cx_grammar.specs.Production.{give, token}
 use Rattle.cx_grammar.specs.Words.{word, punct, any_name}
 use Rattle.cx_grammar.specs.Printed.{Relation, trees_of, ◌>>=◌, or, optional}
 use Rattle.cx_grammar.specs.Names.{Context}
-use Rattle.cx_grammar.specs.Types.{Numbered, Below, numbered, type_id}
+use Rattle.cx_grammar.specs.Types.{Numbered, Below, numbered, type_id, Named, type_place}
 use Rattle.cx_grammar.specs.Expressions.{expr, type_argument, value_argument}
-use Rattle.cx_grammar.specs.Statements.{Named, Within, place_or, constraint, auto_behind, typed_variable, constrained_auto, plain_auto, variable, expr_stmt}
-use Rattle.cx_grammar.specs.Declarations.{type_place, no_specifiers, specifiers, constant_behind, function_behind, is_member_specifier}
+use Rattle.cx_grammar.specs.Requires.{constraint}
+use Rattle.cx_grammar.specs.Statements.{Within, place_or, auto_behind, typed_variable, constrained_auto, plain_auto, variable, expr_stmt}
+use Rattle.cx_grammar.specs.Declarations.{no_specifiers, specifiers, constant_behind, function_behind, is_member_specifier}
 
 -- ---- targ = type | carg, where carg is an expression: within a list it has no assignment, and `>` is no operator
 

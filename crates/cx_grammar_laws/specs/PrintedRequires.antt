@@ -1,25 +1,34 @@
 -- Requires-expressions as they are printed ([expr.prim.req]): with their alternatives and repetitions as the text of the
 -- grammar has them, with no reader.
 use Rattle.std.specs.Prelude.{◌≡◌, ℕ, zero, suc, ◌+◌, Bool, false, ◌||◌, List, [], ◌∷◌, ◌++◌, codes, Option, Some, None}
-use Rattle.cx_scope.specs.Frames.{entered}
-use Rattle.cx_tree.specs.Trees.{TypeTree}
-use Rattle.cx_tree.specs.Statements.{ConstraintTree}
-use Rattle.cx_tree.specs.Declarations.{ParameterTree}
+use Rattle.cx_scope.specs.Frames.{noted, entered}
+use Rattle.cx_scope.specs.declared.name_kind.NameKind.TheVariants.{Value}
+use Rattle.cx_tree.specs.Trees.{ExprTree, RequiresTree, TypeTree, VoidTree, ConstraintTree, LocalTree, RequirementTree, TypeRequirement, CompoundRequirement, locals, requirements}
 use Rattle.cx_grammar.specs.Pieces.{Piece}
 use Rattle.cx_grammar.specs.Production.{give, token, begins}
-use Rattle.cx_grammar.specs.Words.{word, punct}
-use Rattle.cx_grammar.specs.Names.{Context, deeper, inside}
-use Rattle.cx_grammar.specs.Types.{Numbered, Below, numbered, as_type, class_core, head_core, qualified_names}
-use Rattle.cx_grammar.specs.Statements.{Named, with_names, constraint}
-use Rattle.cx_grammar.specs.Declarations.{parameters}
+use Rattle.cx_grammar.specs.Words.{word, punct, any_name}
+use Rattle.cx_grammar.specs.Names.{Context, deeper, inside, with_names}
+use Rattle.cx_grammar.specs.Types.{Numbered, Below, Named, numbered, as_type, class_core, head_core, qualified_names, type_place, type_behind, type_id}
+use Rattle.cx_grammar.specs.Requires.{constraint, simple_requirement, nested_requirement}
 use Rattle.cx_grammar.specs.Printed.{Relation, trees_of, ◌>>=◌, or, optional}
-use Rattle.cx_grammar_laws.specs.Requires.{RequirementTree, TypeRequirement, CompoundRequirement, RequiresTree, simple_requirement, nested_requirement}
 
 -- What does not begin with a token of some kind.
 abbrev pub unless : {A : Type 0} → (Piece → Bool) → Relation A → Relation A
 unless q r = record {
   whole = λ limit ts behind x. (begins q (ts ++ behind) ≡ false) × r.whole limit ts behind x;
   front = λ limit ts. (begins q ts ≡ false) × r.front limit ts;
+}
+
+-- whether a token of some kind is all that there is
+abbrev pub is_alone : (Piece → Bool) → List Piece → Bool
+is_alone q (t ∷ []) = q t
+is_alone q other = false
+
+-- What is more than one token of some kind. Such a token may be the beginning of it.
+abbrev pub not_alone : {A : Type 0} → (Piece → Bool) → Relation A → Relation A
+not_alone q r = record {
+  whole = λ limit ts behind x. (is_alone q ts ≡ false) × r.whole limit ts behind x;
+  front = r.front;
 }
 
 -- One again and again, so many times.
@@ -96,21 +105,66 @@ printed_requirements b c n = do
   first ← printed_requirement b c n
   any_number (another_requirement b c) (first.0 ∷ [], first.1)
 
+-- ---- rparams = "void" | type [ Name ] { "," type [ Name ] }
+-- where "void" alone is no parameter.
+
+abbrev pub void_alone : Context → ℕ → Relation (Named (List LocalTree))
+void_alone c n = do
+  word' ← trees_of (token c.load (word (codes "void")))
+  trees_of (give ([], n, c.names))
+
+-- [ Name ]; the name is declared at once
+abbrev pub maybe_local_name : Context → Numbered TypeTree → Relation (Named LocalTree)
+maybe_local_name c of = optional
+    (do
+      name ← trees_of (token c.load any_name)
+      trees_of (give (record { mark = numbered of.1 name.token.at; type = of.0; name = Some name.token.text }, of.1 + 1, noted c.names name.token.text Value)))
+    (record { mark = numbered of.1 (type_place of.0); type = of.0; name = None }, of.1 + 1, c.names)
+
+-- The first type. Where it begins with "void", that word is no part of the type's construct, as it may be all that there
+-- is.
+abbrev pub first_type : Below → Context → ℕ → Relation (Numbered TypeTree)
+first_type b c n = or
+    (unless (word (codes "void")) (trees_of (type_id b c n)))
+    (do
+      word' ← trees_of (token c.load (word (codes "void")))
+      trees_of (type_behind c word'.token.at false (VoidTree, n)))
+
+-- type [ Name ]
+abbrev pub printed_local : Below → Context → ℕ → Relation (Named LocalTree)
+printed_local b c n = do
+  of ← trees_of (type_id b c n)
+  maybe_local_name c of
+
+abbrev pub another_local : Below → Context → Named (List LocalTree) → Relation (Named (List LocalTree))
+another_local b c so_far = do
+  comma ← trees_of (token c.load (punct (codes ",")))
+  p ← printed_local b (with_names c so_far.2) so_far.1
+  trees_of (give (so_far.0 ++ p.0 ∷ [], p.1, p.2))
+
+abbrev pub typed_locals : Below → Context → ℕ → Relation (Named (List LocalTree))
+typed_locals b c n = do
+  of ← first_type b c n
+  first ← maybe_local_name c of
+  any_number (another_local b c) (first.0 ∷ [], first.1, first.2)
+
+abbrev pub printed_locals : Below → Context → ℕ → Relation (Named (List LocalTree))
+printed_locals b c n = or (void_alone c n) (not_alone (word (codes "void")) (typed_locals b c n))
+
 -- ---- reqexpr = "requires" [ "(" [ rparams ] ")" ] "{" req { req } "}"
 
--- the parameters of a function without `auto`, in parentheses
-abbrev pub round_parameters : Below → Context → ℕ → Relation (Named (List ParameterTree))
-round_parameters b c n = do
+abbrev pub round_locals : Below → Context → ℕ → Relation (Named (List LocalTree))
+round_locals b c n = do
   open_round ← trees_of (token (c.load + 1) (punct (codes "(")))
-  ps ← trees_of (parameters false b (inside c) n)
+  ps ← optional (printed_locals b (inside c) n) ([], n, c.names)
   close_round ← trees_of (token (c.load + 1) (punct (codes ")")))
   trees_of (give ps)
 
-unfoldable pub printed_requires_expr : Below → Context → ℕ → Relation (Numbered RequiresTree)
+unfoldable pub printed_requires_expr : Below → Context → ℕ → Relation (Numbered ExprTree)
 printed_requires_expr b c n = do
   word' ← trees_of (token c.load (word (codes "requires")))
-  ps ← optional (round_parameters b (with_names c (entered c.names)) n) ([], n, entered c.names)
+  ps ← optional (round_locals b (with_names c (entered c.names)) n) ([], n, entered c.names)
   open_brace ← trees_of (token (c.load + 1) (punct (codes "{")))
   rs ← printed_requirements b (inside (with_names c ps.2)) ps.1
   close_brace ← trees_of (token (c.load + 1) (punct (codes "}")))
-  trees_of (give (record { mark = numbered rs.1 word'.token.at; parameters = ps.0; requirements = rs.0 }, rs.1 + 1))
+  trees_of (give (RequiresTree (numbered rs.1 word'.token.at) (locals ps.0) (requirements rs.0), rs.1 + 1))

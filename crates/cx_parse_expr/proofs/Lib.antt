@@ -2,5 +2,5 @@ pub mod Knot
 pub mod Asked
 pub mod Rests
 pub mod Answering
-pub mod Unbuilt
+pub mod Unread
 pub mod Parsed

@@ -1,5 +1,5 @@
 -- What a parser answers, in the words of trees.
-use Rattle.std.proofs.Common.{◌≡◌, ℕ, zero, suc, true, List, [], ◌∷◌, ◌++◌, drop, take, Result, Ok, Err, refl, sym, ap, ◌∙◌, subst, append_assoc}
+use Rattle.std.proofs.Common.{◌≡◌, Bool, ℕ, zero, suc, true, List, [], ◌∷◌, ◌++◌, drop, take, Result, Ok, Err, refl, sym, ap, ◌∙◌, subst, append_assoc}
 use Rattle.std.specs.List.{list_all}
 use Rattle.std.proofs.lemmas.List.{take-append-drop}
 use Rattle.cx_base.specs.Refusal.{Refused, Passed}
@@ -28,8 +28,8 @@ behind_ok : {A : Type 0} {x y : A} {left : List Piece} (rest : List Piece) → �
 unfolding behind_or
 behind_ok rest e = ap (behind_or rest) e
 
-behind_tree : {A : Type 0} (limit : ℕ) (p : Levelled A) (ts : List TokenTree) (x : A) (left : List Piece) (r : Result (A × List Piece) Stopped)
-    → WholeTokens p → list_all is_sound ts ≡ true → Answers limit p (pieces ts) r → r ≡ Ok (x, left) → Behind ts left
+behind_tree : {requires : Bool} {A : Type 0} (limit : ℕ) (p : Levelled A) (ts : List TokenTree) (x : A) (left : List Piece) (r : Result (A × List Piece) Stopped)
+    → WholeTokens p → list_all is_sound ts ≡ true → Answers requires limit p (pieces ts) r → r ≡ Ok (x, left) → Behind ts left
 behind_tree {A = A} limit p ts x left r whole sound (Tree us rest y is far tree) e =
     let both : ◌≡◌ {A = Result (A × List Piece) Stopped} (Ok (y, rest)) (Ok (x, left)) = sym is ∙ e in
     let same : rest ≡ left = behind_ok rest both in
@@ -40,8 +40,8 @@ behind_tree limit p ts x left r whole sound (TooDeep us t rest is parts begins a
 behind_tree limit p ts x left r whole sound (Short is begins none) e = absurd cc
 
 -- .. among all tokens
-pub behind : {A : Type 0} (limit : ℕ) (p : Levelled A) (from : ℕ) (ts : List TokenTree) (x : A) (left : List Piece) (r : Result (A × List Piece) Stopped)
-    → WholeTokens p → list_all is_sound (drop from ts) ≡ true → Answers limit p (pieces (drop from ts)) r → r ≡ Ok (x, left)
+pub behind : {requires : Bool} {A : Type 0} (limit : ℕ) (p : Levelled A) (from : ℕ) (ts : List TokenTree) (x : A) (left : List Piece) (r : Result (A × List Piece) Stopped)
+    → WholeTokens p → list_all is_sound (drop from ts) ≡ true → Answers requires limit p (pieces (drop from ts)) r → r ≡ Ok (x, left)
     → (first last : List TokenTree) × (ts ≡ first ++ last) × (left ≡ pieces last)
 behind limit p from ts x left r whole sound answers e =
     let b = behind_tree limit p (drop from ts) x left r whole sound answers e in

@@ -2,6 +2,7 @@
 use Rattle.std.specs.Prelude.{ℕ, List, drop, Result}
 use Rattle.cx_base.specs.declared.stop.Stop.{Stop}
 use Rattle.cx_lexer.specs.Tokens.{TokenTree}
+use Rattle.cx_grammar.specs.Expressions.{no_requires}
 use Rattle.cx_grammar.specs.Pieces.{pieces}
 use Rattle.cx_grammar.specs.Production.{Gives}
 use Rattle.cx_grammar.specs.Types.{Numbered}
@@ -19,5 +20,5 @@ load_limit = 256
 abbrev pub Parses : {X A : Type 0} → (X → A) → Levelled (Numbered A) → List TokenTree → ℕ → ℕ → Result (X × ℕ) Stop → Type 0
 Parses view p tokens from next result =
     (level : ℕ)
-    × Answers load_limit p (pieces (drop from tokens)) ((p level).read load_limit (pieces (drop from tokens)))
+    × Answers no_requires load_limit p (pieces (drop from tokens)) ((p level).read load_limit (pieces (drop from tokens)))
     × Gives (λ x. ((view x.0, next), pieces (drop x.1 tokens))) result ((p level).read load_limit (pieces (drop from tokens)))

@@ -9,7 +9,7 @@ ghost use Rattle.cx_spots.specs.Spots.{Reads, ReadsNode, Lightens, weight, conte
 use crate::ask::{Asked, Reply};
 use crate::deeper::{binary_rest, operand};
 use crate::unary::unary_here;
-use cx_spots::{Class, Context, Half, Read, Spot, place_of};
+use cx_spots::{Class, Context, Half, Read, Spot};
 use cx_tree::{BinaryOperator, Expr};
 
 /// An operator of a level: `>>` is two pieces.
@@ -57,7 +57,7 @@ fn binary_chain<'c, 't, 's, F: for<'a, 'b> Fn(Asked<'a, 'b, 's>) -> Read<'b, 's,
     let (node, spot) = spot.number();
     let whole = Expr::Binary {
         node,
-        at: place_of(&left),
+        at: left.at(),
         operator,
         left: Box::new(context.alloc, left)?,
         right: Box::new(context.alloc, right)?,

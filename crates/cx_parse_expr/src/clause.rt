@@ -10,7 +10,7 @@ use crate::deeper::core;
 use crate::engine::read;
 use crate::primary::{Calling, Operand, qualified, simple_primary};
 use crate::types::as_type;
-use cx_spots::{Class, Context, Read, Spot, place_of};
+use cx_spots::{Class, Context, Read, Spot};
 use cx_tree::{BinaryOperator, Expr};
 
 /// A primary that need not be called.
@@ -87,7 +87,7 @@ fn and_rest_here<'t, 's>(
     let (node, spot) = spot.number();
     let whole = Expr::Binary {
         node,
-        at: place_of(&left),
+        at: left.at(),
         operator: BinaryOperator::And,
         left: Box::new(context.alloc, left)?,
         right: Box::new(context.alloc, right)?,
@@ -155,7 +155,7 @@ fn or_rest_here<'t, 's>(
     let (node, spot) = spot.number();
     let whole = Expr::Binary {
         node,
-        at: place_of(&left),
+        at: left.at(),
         operator: BinaryOperator::Or,
         left: Box::new(context.alloc, left)?,
         right: Box::new(context.alloc, right)?,

@@ -10,7 +10,7 @@ use crate::ask::{Asked, Reply};
 use crate::binary::rests;
 use crate::deeper::expr;
 use crate::unary::unary_here;
-use cx_spots::{Class, Context, Read, Spot, place_of};
+use cx_spots::{Class, Context, Read, Spot};
 use cx_tree::Expr;
 
 /// What stands behind a condition: `?`, an expression, `:`, an expression.
@@ -35,7 +35,7 @@ fn conditional<'c, 't, 's, F: for<'a, 'b> Fn(Asked<'a, 'b, 's>) -> Read<'b, 's, 
     Ok((
         Expr::Conditional {
             node,
-            at: place_of(&condition),
+            at: condition.at(),
             condition: Box::new(context.alloc, condition)?,
             then: Box::new(context.alloc, then)?,
             otherwise: Box::new(context.alloc, otherwise)?,
@@ -64,7 +64,7 @@ fn assignment<'c, 't, 's, F: for<'a, 'b> Fn(Asked<'a, 'b, 's>) -> Read<'b, 's, R
     Ok((
         Expr::Assignment {
             node,
-            at: place_of(&target),
+            at: target.at(),
             operator: operator.assignment_operator(),
             target: Box::new(context.alloc, target)?,
             value: Box::new(context.alloc, value)?,

@@ -4,7 +4,7 @@ ghost use Rattle.std.specs.Prelude.{◌≡◌, ◌<◌, ◌≤◌, ◌+◌, ◌*
 ghost use Rattle.cx_lexer.specs.Division.{EndsOnce, AreSpelled};
 ghost use Rattle.cx_lexer.specs.Tokens.{token_tree};
 ghost use Rattle.cx_tree.specs.Trees.{expr_tree, type_tree};
-ghost use Rattle.cx_grammar.specs.Expressions.{expr, clause, levels};
+ghost use Rattle.cx_grammar.specs.Expressions.{expr, clause, levels, no_requires};
 ghost use Rattle.cx_grammar.specs.Types.{type_id};
 ghost use Rattle.cx_spots.specs.Spots.{context_of};
 ghost use Rattle.cx_parse_expr.specs.Parses.{Parses};
@@ -59,7 +59,7 @@ pub fn parse_expr<'s>(
     requires spelled { AreSpelled (map token_tree tokens.now) }
     requires load { load ≤ 257 }
     requires room { ids.old.next + 16 * length tokens.now < 2 ^ 32 }
-    ensures exact { Parses expr_tree (λ level. expr (levels level) (record { names = scope.old; angle = 0; load = load }) ids.old.next) (map token_tree tokens.now) from ids.new.next result }
+    ensures exact { Parses expr_tree (λ level. expr (levels no_requires level) (record { names = scope.old; angle = 0; load = load }) ids.old.next) (map token_tree tokens.now) from ids.new.next result }
     ensures within { IfOk result (λ x. x.1 ≤ length tokens.now) }
     ensures scope { scope.new ≡ scope.old }
 {
@@ -92,7 +92,7 @@ pub fn parse_type<'s>(
     requires spelled { AreSpelled (map token_tree tokens.now) }
     requires load { load ≤ 257 }
     requires room { ids.old.next + 16 * length tokens.now < 2 ^ 32 }
-    ensures exact { Parses type_tree (λ level. type_id (levels level) (record { names = scope.old; angle = 0; load = load }) ids.old.next) (map token_tree tokens.now) from ids.new.next result }
+    ensures exact { Parses type_tree (λ level. type_id (levels no_requires level) (record { names = scope.old; angle = 0; load = load }) ids.old.next) (map token_tree tokens.now) from ids.new.next result }
     ensures within { IfOk result (λ x. x.1 ≤ length tokens.now) }
     ensures scope { scope.new ≡ scope.old }
 {
@@ -125,7 +125,7 @@ pub fn parse_clause<'s>(
     requires spelled { AreSpelled (map token_tree tokens.now) }
     requires load { load ≤ 257 }
     requires room { ids.old.next + 16 * length tokens.now < 2 ^ 32 }
-    ensures exact { Parses expr_tree (λ level. clause (levels level) (record { names = scope.old; angle = 0; load = load }) ids.old.next) (map token_tree tokens.now) from ids.new.next result }
+    ensures exact { Parses expr_tree (λ level. clause (levels no_requires level) (record { names = scope.old; angle = 0; load = load }) ids.old.next) (map token_tree tokens.now) from ids.new.next result }
     ensures within { IfOk result (λ x. x.1 ≤ length tokens.now) }
     ensures scope { scope.new ≡ scope.old }
 {

@@ -11,7 +11,7 @@ use crate::ask::{Asked, Reply};
 use crate::deeper::{called, tail};
 use crate::lists::exprs_until;
 use crate::primary::{Calling, primary};
-use cx_spots::{Class, Context, Read, Spot, place_of};
+use cx_spots::{Class, Context, Read, Spot};
 use cx_tree::Expr;
 
 /// A member of an object ([expr.ref]).
@@ -33,7 +33,7 @@ fn member<'c, 't, 's, F: for<'a, 'b> Fn(Asked<'a, 'b, 's>) -> Read<'b, 's, Reply
     let (node, spot) = spot.number();
     let member = Expr::Member {
         node,
-        at: place_of(&operand),
+        at: operand.at(),
         object: Box::new(context.alloc, operand)?,
         name: name.token.text,
     };
@@ -58,7 +58,7 @@ fn step<'c, 't, 's, F: for<'a, 'b> Fn(Asked<'a, 'b, 's>) -> Read<'b, 's, Reply<'
     let (node, spot) = spot.number();
     let stepped = Expr::Postfix {
         node,
-        at: place_of(&operand),
+        at: operand.at(),
         operator: step.postfix_operator(),
         operand: Box::new(context.alloc, operand)?,
     };
@@ -112,7 +112,7 @@ pub(crate) fn called_here<
     let (node, spot) = spot.number();
     let call = Expr::Call {
         node,
-        at: place_of(&operand),
+        at: operand.at(),
         callee: Box::new(context.alloc, operand)?,
         arguments,
     };

@@ -435,7 +435,7 @@ fn with_calling<'t, 's>(calling: Calling, read: Read<'t, 's, Expr<'s>>) -> Read<
 }
 
 /// A primary that begins with a word, or parentheses.
-#[tactic(auto, using(crate::proofs::Unbuilt::unbuilt_stops), unfolding(cx_grammar::specs::Expressions::worded))]
+#[tactic(auto, using(crate::proofs::Unread::unread_here), unfolding(cx_grammar::specs::Expressions::worded))]
 fn worded<'c, 't, 's, F: for<'a, 'b> Fn(Asked<'a, 'b, 's>) -> Read<'b, 's, Reply<'s>>>(
     ask: &F,
     context: Context<'c, 's>,

@@ -3,8 +3,8 @@ use Rattle.std.specs.Prelude.{ℕ, ◌+◌, Bool, true, false, List, codes, Opti
 use Rattle.cx_grammar.specs.Production.{Production, give, ◌>>=◌, token, when}
 use Rattle.cx_grammar.specs.Words.{word, punct}
 use Rattle.cx_grammar.specs.Names.{Context}
-use Rattle.cx_grammar.specs.Types.{Below}
-use Rattle.cx_grammar.specs.Statements.{Named, Within, assertion, string_token, closed_stmt, jump, return_stmt, if_stmt, while_stmt, for_stmt, open_stmt}
+use Rattle.cx_grammar.specs.Types.{Below, Named}
+use Rattle.cx_grammar.specs.Statements.{Within, assertion, string_token, closed_stmt, jump, return_stmt, if_stmt, while_stmt, for_stmt, open_stmt}
 use Rattle.cx_tree.specs.Statements.{StmtTree, AssertStmt, Break, Continue}
 
 -- the text of a `static_assert`, or none

@@ -5,8 +5,9 @@ use Rattle.cx_scope.specs.Frames.{Frames}
 use Rattle.cx_tree.specs.Statements.{StmtTree}
 use Rattle.cx_grammar.specs.Production.{Production, Gives}
 use Rattle.cx_grammar.specs.Names.{Context, deeper}
-use Rattle.cx_grammar.specs.Expressions.{levels}
-use Rattle.cx_grammar.specs.Statements.{Named, Within, next_behind, for_head}
+use Rattle.cx_grammar.specs.Expressions.{levels, no_requires}
+use Rattle.cx_grammar.specs.Types.{Named}
+use Rattle.cx_grammar.specs.Statements.{Within, next_behind, for_head}
 use Rattle.cx_grammar.specs.Declarations.{unit_levels}
 use Rattle.cx_spots.specs.Spots.{left_at, weight}
 use Rattle.cx_spots.specs.declared.spot.Spot.{Spot}
@@ -17,22 +18,22 @@ standing names load = record { names = names; angle = 0; load = load }
 
 -- The productions that stand where a context does, and those one construct deeper.
 abbrev pub here : Context → Within
-here c = unit_levels (264 - c.load)
+here c = unit_levels no_requires (264 - c.load)
 
 abbrev pub within : Context → Within
-within c = unit_levels (264 - (c.load + 1))
+within c = unit_levels no_requires (264 - (c.load + 1))
 
 -- ... the latter by the load, said by those that statements are made of
 abbrev pub opened : ℕ → Within
 opened load = record {
-  base = levels (264 - (load + 1));
-  stmt = λ d n. (unit_levels (264 - (load + 1 + 1))).bare (deeper d) n;
-  bare = (unit_levels (264 - (load + 1))).bare;
-  head = for_head (levels (264 - (load + 1 + 1)));
-  parameters = (unit_levels (264 - (load + 1))).parameters;
-  members = (unit_levels (264 - (load + 1))).members;
-  template_parameters = (unit_levels (264 - (load + 1))).template_parameters;
-  decl = (unit_levels (264 - (load + 1))).decl;
+  base = levels no_requires (264 - (load + 1));
+  stmt = λ d n. (unit_levels no_requires (264 - (load + 1 + 1))).bare (deeper d) n;
+  bare = (unit_levels no_requires (264 - (load + 1))).bare;
+  head = for_head (levels no_requires (264 - (load + 1 + 1)));
+  parameters = (unit_levels no_requires (264 - (load + 1))).parameters;
+  members = (unit_levels no_requires (264 - (load + 1))).members;
+  template_parameters = (unit_levels no_requires (264 - (load + 1))).template_parameters;
+  decl = (unit_levels no_requires (264 - (load + 1))).decl;
 }
 
 -- What a call read from a spot on is what a production's reader gives, which numbers nodes and declares names.

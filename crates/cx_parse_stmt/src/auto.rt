@@ -3,6 +3,7 @@
 ghost use Rattle.std.specs.Prelude.{◌≡◌, ◌<◌, ◌≤◌, ◌+◌, ◌^◌, codes, map, IfOk};
 ghost use Rattle.std.specs.Option.{option_map};
 ghost use Rattle.cx_statements.specs.StatementViews.{constraint_tree, auto_tree};
+ghost use Rattle.cx_grammar.specs.Requires as requirements;
 ghost use Rattle.cx_grammar.specs.Statements as statements;
 ghost use Rattle.cx_spots.specs.Spots.{Reads, ReadsNode, Lightens, weight, context_of, below};
 
@@ -14,14 +15,14 @@ use cx_spots::{Class, Context, Read, Spot};
 use cx_statements::{Auto, Constraint};
 
 /// Reads a concept with its template arguments, which constrains a type ([temp.param]).
-#[tactic(auto, unfolding(cx_grammar::specs::Statements::constraint))]
+#[tactic(auto, unfolding(cx_grammar::specs::Requires::constraint))]
 pub fn read_constraint<'t, 's>(
     context: Context<'_, 's>,
     spot: Spot<'t, 's>,
 ) -> Read<'t, 's, Constraint<'s>>
     requires load { context.load ≤ 257 }
     requires room { weight spot < 2 ^ 32 }
-    ensures exact { ReadsNode constraint_tree (statements.constraint (below (context_of context.entry)) (context_of context.entry)) spot.entry result }
+    ensures exact { ReadsNode constraint_tree (requirements.constraint (below (context_of context.entry)) (context_of context.entry)) spot.entry result }
     ensures lightens { Lightens 4 spot.entry result }
 {
     let (name, spot) = spot.take(context, context.load, Class::Named(NameKind::Concept))?;

@@ -19,7 +19,7 @@ use cx_parse_expr::{
     type_behind,
 };
 use cx_scope::NameKind;
-use cx_spots::{Class, Context, Cored, Read, Spot, place_of, scalar_behind};
+use cx_spots::{Class, Context, Cored, Read, Spot, scalar_behind};
 use cx_statements::Constraint;
 use cx_tree::{Core, Expr};
 
@@ -38,7 +38,7 @@ fn expr_stmt_of<'t, 's>(
     let (expr, spot) = read_expr_behind(context, operand, spot)?;
     let (_, spot) = spot.take(context, context.load, Class::Punct(";"))?;
     let (node, spot) = spot.number();
-    let at = place_of(&expr);
+    let at = expr.at();
     Ok((Opened::Expression { node, at, expr }, spot))
 }
 
@@ -155,7 +155,7 @@ fn expr_stmt<'t, 's>(context: Context<'_, 's>, spot: Spot<'t, 's>) -> Read<'t, '
     let (expr, spot) = read_expr(context, spot)?;
     let (_, spot) = spot.take(context, context.load, Class::Punct(";"))?;
     let (node, spot) = spot.number();
-    let at = place_of(&expr);
+    let at = expr.at();
     Ok((Opened::Expression { node, at, expr }, spot))
 }
 

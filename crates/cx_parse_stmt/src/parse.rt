@@ -4,6 +4,7 @@ ghost use Rattle.std.specs.Prelude.{◌≡◌, ◌<◌, ◌≤◌, ◌+◌, ◌*
 ghost use Rattle.cx_lexer.specs.Division.{EndsOnce, AreSpelled};
 ghost use Rattle.cx_lexer.specs.Tokens.{token_tree};
 ghost use Rattle.cx_grammar.specs.Statements.{stmt};
+ghost use Rattle.cx_grammar.specs.Expressions.{no_requires};
 ghost use Rattle.cx_grammar.specs.Declarations.{unit_levels};
 ghost use Rattle.cx_statements.specs.StatementViews.{stmt_tree};
 ghost use Rattle.cx_parse_stmt.specs.Parses.{Parses};
@@ -42,7 +43,7 @@ pub fn parse_stmt<'s>(
     requires load { load ≤ 256 }
     requires room { ids.old.next + 16 * length tokens.now < 2 ^ 32 }
     requires frame { 0 < length scope.old }
-    ensures exact { Parses stmt_tree (λ level. stmt (unit_levels level) (record { names = scope.old; angle = 0; load = load }) ids.old.next) (map token_tree tokens.now) from ids.new.next scope.new result }
+    ensures exact { Parses stmt_tree (λ level. stmt (unit_levels no_requires level) (record { names = scope.old; angle = 0; load = load }) ids.old.next) (map token_tree tokens.now) from ids.new.next scope.new result }
     ensures within { IfOk result (λ x. x.1 ≤ length tokens.now) }
     ensures scope { IfOk result (λ x. scope.new ≡ names_behind scope.old (stmt_tree x.0)) }
 {

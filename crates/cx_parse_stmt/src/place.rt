@@ -1,6 +1,7 @@
 ghost use Rattle.std.specs.Prelude.{◌≡◌, ◌<◌, not};
 ghost use Rattle.cx_grammar.specs.Production.{begins};
-ghost use Rattle.cx_grammar.specs.Statements.{is_not_closing, place_or};
+ghost use Rattle.cx_grammar.specs.Requires.{is_not_closing};
+ghost use Rattle.cx_grammar.specs.Statements.{place_or};
 ghost use Rattle.cx_spots.specs.Spots.{context_of, left_at};
 ghost use Rattle.cx_parse_stmt.specs.Within.{standing};
 

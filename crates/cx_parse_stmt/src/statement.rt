@@ -7,6 +7,7 @@ ghost use Rattle.cx_scope.specs.Frames.{left};
 ghost use Rattle.cx_grammar.specs.Names.{inside};
 ghost use Rattle.cx_grammar.specs.Types.{numbered};
 ghost use Rattle.cx_grammar.specs.Production.{repeat};
+ghost use Rattle.cx_grammar.specs.Requires as requirements;
 ghost use Rattle.cx_grammar.specs.Statements as statements;
 ghost use Rattle.cx_spots.specs.Spots.{Reads, ReadsNode, Lightens, weight, context_of, left_at, below};
 ghost use Rattle.cx_parse_stmt.specs.Parts.{maybe_constexpr, open_or_holding_stmt, worded_stmt};
@@ -80,7 +81,7 @@ fn statement_seq<'t, 's>(
     requires load { load ≤ 255 }
     requires room { weight spot < 2 ^ 32 }
     requires frame { 0 < length scope.old }
-    ensures exact { ReadsNamed (λ v. map stmt_tree v.items) (λ v. scope.new) (λ n. repeat statements.is_not_closing (statements.more_stmt (opened load) (inside (standing (left scope.old) load))) ([], n, scope.old)) spot.entry result }
+    ensures exact { ReadsNamed (λ v. map stmt_tree v.items) (λ v. scope.new) (λ n. repeat requirements.is_not_closing (statements.more_stmt (opened load) (inside (standing (left scope.old) load))) ([], n, scope.old)) spot.entry result }
     ensures outer { IfOk result (λ x. left scope.new ≡ left scope.old) }
     ensures depth { IfOk result (λ x. length scope.new ≡ length scope.old) }
     ensures lightens { Lightens 0 spot.entry result }

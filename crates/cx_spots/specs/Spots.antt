@@ -16,7 +16,7 @@ use Rattle.cx_grammar.specs.Pieces.{as_piece, is_double}
 use Rattle.cx_grammar.specs.Production.{Production, Gives}
 use Rattle.cx_grammar.specs.Names as names
 use Rattle.cx_grammar.specs.Types.{Below, Numbered}
-use Rattle.cx_grammar.specs.Expressions.{levels}
+use Rattle.cx_grammar.specs.Expressions.{levels, no_requires}
 use Rattle.cx_spots.specs.declared.context.Context.{Context}
 use Rattle.cx_spots.specs.declared.piece.Half.{Half}
 use Rattle.cx_spots.specs.declared.piece.Half.TheVariants as half
@@ -55,10 +55,10 @@ context_of c = record { names = c.scope.now; angle = c.angle; load = c.load }
 
 -- The productions that stand where a context does, and those one construct deeper.
 abbrev pub at : names.Context → Below
-at c = levels (264 - c.load)
+at c = levels no_requires (264 - c.load)
 
 abbrev pub below : names.Context → Below
-below c = levels (264 - (c.load + 1))
+below c = levels no_requires (264 - (c.load + 1))
 
 -- The number of the next node, and 8 for each piece that is left: it falls as pieces are read, since each piece makes
 -- fewer nodes.

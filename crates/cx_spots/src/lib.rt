@@ -10,7 +10,6 @@ mod misfits;
 mod names;
 mod operators;
 mod piece;
-mod place;
 mod scalars;
 mod spot;
 
@@ -21,6 +20,5 @@ pub use laws::spelled_tokens;
 pub use misfits::unsupported;
 pub use names::qualified_names;
 pub use piece::{Half, Piece};
-pub use place::place_of;
 pub use scalars::{scalar_behind, scalar_core};
 pub use spot::{Cored, Read, Spot};

@@ -3,4 +3,4 @@ use Rattle.cx_grammar.specs.Expressions.{levels}
 use Rattle.cx_grammar.proofs.text.expressions_as_printed.Goals as goal
 
 pub returns : goal.returns
-returns c = record { printed = λ c' n depth. expr_printed (levels depth) c' n }
+returns c = record { printed = λ requires c' n depth. expr_printed (levels requires depth) c' n }

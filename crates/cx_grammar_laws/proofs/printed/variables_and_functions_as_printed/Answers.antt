@@ -3,4 +3,4 @@ use Rattle.cx_grammar_laws.proofs.Functions.{variable_or_function_printed}
 use Rattle.cx_grammar_laws.proofs.printed.variables_and_functions_as_printed.Goals as goal
 
 pub returns : goal.returns
-returns c = record { printed = λ c' n depth. variable_or_function_printed (unit_levels depth) c' n }
+returns c = record { printed = λ requires c' n depth. variable_or_function_printed (unit_levels requires depth) c' n }

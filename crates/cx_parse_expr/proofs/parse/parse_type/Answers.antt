@@ -3,7 +3,7 @@ use Rattle.std.proofs.lemmas.Result.{err_from_is_err_and}
 use Rattle.cx_lexer.specs.Tokens.{token_tree}
 use Rattle.cx_tree.specs.Trees.{TypeTree, type_tree}
 use Rattle.cx_grammar.specs.Names.{Context}
-use Rattle.cx_grammar.specs.Expressions.{levels}
+use Rattle.cx_grammar.specs.Expressions.{levels, no_requires}
 use Rattle.cx_grammar.specs.Pieces.{Piece, pieces}
 use Rattle.cx_grammar.specs.Production.{Stopped, Stops}
 use Rattle.cx_grammar.specs.Types.{Numbered, type_id}
@@ -17,7 +17,7 @@ pub returns-in_err-syn-clause-exact : goal.returns-in_err-syn-clause-exact
 returns-in_err-syn-clause-exact c =
     let at : Context = record { names = c.args.scope.now; angle = 0; load = c.args.load } in
     let rest = pieces (drop c.args.from (map token_tree c.args.tokens.now)) in
-    let answers = (c.laws_of_types.ensures.laws at c.args.ids.now.next).answers load_limit (264 - (c.args.load + 1)) rest (omega (arith, c.requires.load)) (omega (arith, c.requires.load)) in
+    let answers = (c.laws_of_types.ensures.laws no_requires at c.args.ids.now.next).answers load_limit (264 - (c.args.load + 1)) rest (omega (arith, c.requires.load)) (omega (arith, c.requires.load)) in
     let stops = moved (Stops c.in_err-syn.field-0.0) (λ (k : Context) (n : ℕ) (ts : List Piece). (type_id (below k) k n).read load_limit ts) (context_of c.context.result) at c.spot_at-spot.result.next c.args.ids.now.next (left_at c.spot_at-spot.result) rest c.context.ensures.same c.spot_at-spot.ensures.next c.spot_at-spot.ensures.left c.in_err-syn.ensures.exact in
     let p = err_from_is_err_and c.from_residual.result c.from_residual.ensures.1 in
     rw (p.1, p.2) (264 - (c.args.load + 1), answers, stops)
@@ -26,14 +26,14 @@ pub index_of-requires : goal.index_of-requires
 index_of-requires c =
     let at : Context = record { names = c.args.scope.now; angle = 0; load = c.args.load } in
     let rest = pieces (drop c.args.from (map token_tree c.args.tokens.now)) in
-    let answers = (c.laws_of_types.ensures.laws at c.args.ids.now.next).answers load_limit (264 - (c.args.load + 1)) rest (omega (arith, c.requires.load)) (omega (arith, c.requires.load)) in
+    let answers = (c.laws_of_types.ensures.laws no_requires at c.args.ids.now.next).answers load_limit (264 - (c.args.load + 1)) rest (omega (arith, c.requires.load)) (omega (arith, c.requires.load)) in
     let read = moved (λ (r : Result (Numbered TypeTree × List Piece) Stopped). r ≡ Ok ((type_tree c.in_ok-syn.syn, c.in_ok-syn.behind.next), left_at c.in_ok-syn.behind)) (λ (k : Context) (n : ℕ) (ts : List Piece). (type_id (below k) k n).read load_limit ts) (context_of c.context.result) at c.spot_at-spot.result.next c.args.ids.now.next (left_at c.spot_at-spot.result) rest c.context.ensures.same c.spot_at-spot.ensures.next c.spot_at-spot.ensures.left c.in_ok-syn.ensures.exact in
-    behind load_limit (λ level. type_id (levels level) at c.args.ids.now.next) c.args.from (map token_tree c.args.tokens.now) _ _ _ (c.laws_of_types.ensures.tokens at c.args.ids.now.next refl) (c.spelled_tokens.ensures (drop c.args.from (map token_tree c.args.tokens.now)) (spelled_rest c.args.from (map token_tree c.args.tokens.now) c.requires.spelled)) answers read
+    behind load_limit (λ level. type_id (levels no_requires level) at c.args.ids.now.next) c.args.from (map token_tree c.args.tokens.now) _ _ _ (c.laws_of_types.ensures.tokens no_requires at c.args.ids.now.next refl) (c.spelled_tokens.ensures (drop c.args.from (map token_tree c.args.tokens.now)) (spelled_rest c.args.from (map token_tree c.args.tokens.now) c.requires.spelled)) answers read
 
 pub returns-clause-exact : goal.returns-clause-exact
 returns-clause-exact c =
     let at : Context = record { names = c.args.scope.now; angle = 0; load = c.args.load } in
     let rest = pieces (drop c.args.from (map token_tree c.args.tokens.now)) in
-    let answers = (c.laws_of_types.ensures.laws at c.args.ids.now.next).answers load_limit (264 - (c.args.load + 1)) rest (omega (arith, c.requires.load)) (omega (arith, c.requires.load)) in
+    let answers = (c.laws_of_types.ensures.laws no_requires at c.args.ids.now.next).answers load_limit (264 - (c.args.load + 1)) rest (omega (arith, c.requires.load)) (omega (arith, c.requires.load)) in
     let read = moved (λ (r : Result (Numbered TypeTree × List Piece) Stopped). r ≡ Ok ((type_tree c.in_ok-syn.syn, c.in_ok-syn.behind.next), left_at c.in_ok-syn.behind)) (λ (k : Context) (n : ℕ) (ts : List Piece). (type_id (below k) k n).read load_limit ts) (context_of c.context.result) at c.spot_at-spot.result.next c.args.ids.now.next (left_at c.spot_at-spot.result) rest c.context.ensures.same c.spot_at-spot.ensures.next c.spot_at-spot.ensures.left c.in_ok-syn.ensures.exact in
     (264 - (c.args.load + 1), answers, read ∙ ap (λ (left : List Piece). Ok ((type_tree c.in_ok-syn.syn, c.in_ok-syn.behind.next), left)) c.index_of.ensures.left)

@@ -3,14 +3,15 @@ use Rattle.std.proofs.lemmas.Result.{err_from_is_err_and}
 use Rattle.cx_base.specs.declared.stop.Stop.{Stop}
 use Rattle.cx_base.specs.declared.stop.Stop.TheVariants as stop
 use Rattle.cx_tree.specs.Trees.{expr_tree}
-use Rattle.cx_grammar.specs.Types.{numbered}
+use Rattle.cx_grammar.specs.Types.{numbered, Named}
 use Rattle.cx_statements.specs.StatementViews.{stmt_tree}
 use Rattle.cx_scope.specs.Frames.{Frames, left}
 use Rattle.cx_tree.specs.Statements.{StmtTree}
 use Rattle.cx_grammar.specs.Names.{Context, inside}
 use Rattle.cx_grammar.specs.Production.{Production, Stopped, Stops, ◌>>>◌, times, repeat}
 use Rattle.cx_grammar.specs.Pieces.{Piece}
-use Rattle.cx_grammar.specs.Statements.{Named, more_stmt, is_not_closing, if_stmt, alternative}
+use Rattle.cx_grammar.specs.Requires.{is_not_closing}
+use Rattle.cx_grammar.specs.Statements.{more_stmt, if_stmt, alternative}
 use Rattle.cx_spots.specs.Spots.{left_at, ReadsNode}
 use Rattle.cx_spots.proofs.Repeats.{repeat_begins, repeat_more}
 use Rattle.cx_parse_stmt.specs.Within.{ReadsNamed, standing, opened}

@@ -3,7 +3,8 @@ use Rattle.cx_statements.specs.StatementViews.{stmt_tree}
 use Rattle.cx_scope.specs.Frames.{left}
 use Rattle.cx_grammar.specs.Production.{times, repeat}
 use Rattle.cx_grammar.specs.Names.{inside}
-use Rattle.cx_grammar.specs.Statements.{more_stmt, is_not_closing}
+use Rattle.cx_grammar.specs.Requires.{is_not_closing}
+use Rattle.cx_grammar.specs.Statements.{more_stmt}
 use Rattle.cx_spots.specs.Spots.{left_at, weight}
 use Rattle.cx_parse_stmt.specs.Within.{standing, opened}
 use Rattle.cx_parse_stmt.proofs.statement.+statements.Given as goal
