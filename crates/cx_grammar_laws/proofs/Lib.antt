@@ -18,3 +18,9 @@ pub mod Variables
 pub mod Behind
 pub mod Parameters
 pub mod Functions
+pub mod Included
+pub mod IncludedTypes
+pub mod IncludedRequires
+pub mod IncludedExpressions
+pub mod IncludedUnits
+pub mod Parts

@@ -2,3 +2,4 @@ pub mod NodeLaws
 pub mod RequirementNodes
 pub mod PrintedRequires
 pub mod Printed
+pub mod Language

@@ -1,10 +1,12 @@
 //! Further laws of the grammar. Each is the contract of a function that does nothing.
 #![tactic(auto)]
 
+mod language;
 mod numbers;
 mod printed;
 mod requirements;
 
+pub use language::{expressions_of_the_language, units_of_the_language};
 pub use numbers::{numbers_of_declarations, numbers_of_statements, numbers_of_units};
 pub use printed::{
     arguments_as_printed, fields_and_functions_as_printed, parameters_as_printed,

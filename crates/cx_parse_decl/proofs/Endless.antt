@@ -12,7 +12,7 @@ use Rattle.cx_grammar.specs.Types.{closes, one_word}
 use Rattle.cx_grammar.specs.Statements.{is_string_kind, string_token}
 use Rattle.cx_grammar.specs.Expressions.{is_prefix, is_step, is_punct, is_hidden, binary_of, has_level, operator_of, is_operator, assignment_of, is_assignment}
 use Rattle.cx_grammar.specs.Declarations.{is_end_kind}
-use Rattle.cx_grammar.specs.Production.{Production, give, ◌>>=◌, token, when, given, closed, unbuilt, times, repeat, begins, Chosen}
+use Rattle.cx_grammar.specs.Production.{Production, give, ◌>>=◌, token, when, given, closed, unread, times, repeat, begins, Chosen}
 
 -- whether a piece is a whole token that is the end
 abbrev pub is_last : Piece → Bool
@@ -220,8 +220,8 @@ given-Endless false ha hb = record { whole = hb.whole; front = hb.front }
 pub closed-Endless : {A : Type 0} → Endless (closed {A = A})
 closed-Endless = record { whole = λ l us rest x w. absurd w; front = λ l us w. ap (λ (s : List Piece). has_last s) w }
 
-pub unbuilt-Endless : {A : Type 0} → Endless (unbuilt {A = A})
-unbuilt-Endless = record { whole = λ l us rest x w. absurd w; front = λ l us w. ap (λ (s : List Piece). has_last s) w }
+pub unread-Endless : {A : Type 0} (p : Piece → Bool) → Endless (unread {A = A} p)
+unread-Endless p = record { whole = λ l us rest x w. absurd w; front = λ l us w. ap (λ (s : List Piece). has_last s) w }
 
 times-Endless : {A : Type 0} (p : Piece → Bool) (step : A → Production A) → ((y : A) → Endless (step y)) → (n : ℕ) (x : A) → Endless (times n p step x)
 times-Endless p step h zero x = closed-Endless

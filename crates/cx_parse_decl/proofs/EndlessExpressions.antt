@@ -6,7 +6,8 @@ use Rattle.cx_grammar.specs.Production.{Production}
 use Rattle.cx_grammar.specs.Names.{Context}
 use Rattle.cx_grammar.specs.Types.{Numbered, Placed, Calling, NoCall, MayCall, MustCall, Below}
 use Rattle.cx_grammar.specs.Expressions.{more_expr, some_exprs, exprs_until, literal, truth, group, static_cast, is_same, out, list, qualified, behind_head, behind_core, headed, cored, word_list, name_alone, named, with_calling, worded, simple_primary, primary, call, called, member, step, tail_behind, tail, postfix, prefixed, unary, operator, binary_chain, binary_rest, rests, operand, conditional, assignment, expr_behind, expr, argument_of, argument_type, core_argument, head_argument, word_argument, core_type_argument, argument, uncalled, clause_primary, and_rest, conjunction, or_rest, clause, levels}
-use Rattle.cx_parse_decl.proofs.Endless.{Endless, give-Endless, then-Endless, closed-Endless, unbuilt-Endless, repeat-Endless}
+use Rattle.cx_parse_decl.proofs.Endless.{Endless, give-Endless, then-Endless, closed-Endless, repeat-Endless}
+use Rattle.cx_parse_decl.proofs.EndlessRequires.{maybe_requires-Endless}
 use Rattle.cx_parse_decl.proofs.EndlessTypes.{BelowEndless, endlessness, argument_list-Endless, qualified_names-Endless, type_behind-Endless, scalar_behind-Endless, const_type-Endless, type_id-Endless, core-Endless}
 
 pub literal-Endless : (c : Context) (n : ℕ) → Endless (literal c n)
@@ -101,7 +102,7 @@ module _ {b : Below} (h : BelowEndless b) where
 
   pub worded-Endless : (c : Context) (n : ℕ) → Endless (worded b c n)
   unfolding worded
-  worded-Endless c n = search (endlessness, unbuilt-Endless, with_calling-Endless, truth-Endless, is_same-Endless, out-Endless, group-Endless) depth 13
+  worded-Endless c n = search (endlessness, maybe_requires-Endless h, with_calling-Endless, truth-Endless, is_same-Endless, out-Endless, group-Endless) depth 13
 
   pub simple_primary-Endless : (c : Context) (n : ℕ) → Endless (simple_primary b c n)
   unfolding simple_primary
@@ -226,9 +227,9 @@ module _ {b : Below} (h : BelowEndless b) where
   unfolding clause
   clause-Endless c n = search (endlessness, conjunction-Endless, or_rest-Endless) depth 13
 
-pub levels-Endless : (n : ℕ) → BelowEndless (levels n)
+pub levels-Endless : (requires : Bool) (n : ℕ) → BelowEndless (levels requires n)
 unfolding levels
-levels-Endless zero = record {
+levels-Endless requires zero = record {
   expr = λ c n. closed-Endless;
   unary = λ c n. closed-Endless;
   binary_rest = λ level c e. closed-Endless;
@@ -243,18 +244,18 @@ levels-Endless zero = record {
   conjunction = λ c n. closed-Endless;
   or_rest = λ c e. closed-Endless;
 }
-levels-Endless (suc n) = record {
-  expr = expr-Endless (levels-Endless n);
-  unary = unary-Endless (levels-Endless n);
-  binary_rest = binary_rest-Endless (levels-Endless n);
-  operand = operand-Endless (levels-Endless n);
-  tail = tail-Endless (levels-Endless n);
-  called = called-Endless (levels-Endless n);
-  type = type_id-Endless (levels-Endless n);
-  core = core-Endless (levels-Endless n);
-  argument = argument-Endless (levels-Endless n);
-  clause_primary = clause_primary-Endless (levels-Endless n);
-  and_rest = and_rest-Endless (levels-Endless n);
-  conjunction = conjunction-Endless (levels-Endless n);
-  or_rest = or_rest-Endless (levels-Endless n);
+levels-Endless requires (suc n) = record {
+  expr = expr-Endless (levels-Endless requires n);
+  unary = unary-Endless (levels-Endless requires n);
+  binary_rest = binary_rest-Endless (levels-Endless requires n);
+  operand = operand-Endless (levels-Endless requires n);
+  tail = tail-Endless (levels-Endless requires n);
+  called = called-Endless (levels-Endless requires n);
+  type = type_id-Endless (levels-Endless requires n);
+  core = core-Endless (levels-Endless requires n);
+  argument = argument-Endless (levels-Endless requires n);
+  clause_primary = clause_primary-Endless (levels-Endless requires n);
+  and_rest = and_rest-Endless (levels-Endless requires n);
+  conjunction = conjunction-Endless (levels-Endless requires n);
+  or_rest = or_rest-Endless (levels-Endless requires n);
 }

@@ -1,15 +1,16 @@
 -- The end of a unit is in no statement.
 use Rattle.std.proofs.Common.{ℕ, zero, suc, Bool, List, Option}
 use Rattle.cx_base.specs.declared.place.Place.{Place}
-use Rattle.cx_tree.specs.Trees.{Mark, ExprTree, TypeTree, CoreTree}
-use Rattle.cx_tree.specs.Statements.{ConstraintTree, AutoTree, StmtTree}
+use Rattle.cx_tree.specs.Trees.{Mark, ExprTree, TypeTree, CoreTree, ConstraintTree}
+use Rattle.cx_tree.specs.Statements.{AutoTree, StmtTree}
 use Rattle.cx_grammar.specs.Production.{Production}
 use Rattle.cx_grammar.specs.Names.{Context}
-use Rattle.cx_grammar.specs.Types.{Numbered, Placed, Below}
-use Rattle.cx_grammar.specs.Statements.{Named, Within, condition, value_init, list_init, init, variable_behind, auto_variable_behind, constraint, const_behind_auto, reference_behind_auto, auto_behind, variable_of, variable_of_auto, expr_stmt_of, core_stmt, head_stmt, word_stmt, typed_variable, constrained_auto, plain_auto, const_variable, variable, concept_stmt, expr_stmt, open_stmt, assertion, more_stmt, block, substatement, alternative, if_stmt, while_stmt, maybe_expr, for_init, for_head, for_stmt, return_stmt, jump, empty_stmt, closed_stmt, bare_stmt, stmt}
+use Rattle.cx_grammar.specs.Types.{Numbered, Placed, Below, Named}
+use Rattle.cx_grammar.specs.Statements.{Within, condition, value_init, list_init, init, variable_behind, auto_variable_behind, const_behind_auto, reference_behind_auto, auto_behind, variable_of, variable_of_auto, expr_stmt_of, core_stmt, head_stmt, word_stmt, typed_variable, constrained_auto, plain_auto, const_variable, variable, concept_stmt, expr_stmt, open_stmt, assertion, more_stmt, block, substatement, alternative, if_stmt, while_stmt, maybe_expr, for_init, for_head, for_stmt, return_stmt, jump, empty_stmt, closed_stmt, bare_stmt, stmt}
 use Rattle.cx_grammar.specs.Declarations.{unit_levels}
 use Rattle.cx_parse_decl.proofs.Endless.{Endless, closed-Endless, repeat-Endless, string_token-Other}
 use Rattle.cx_parse_decl.proofs.EndlessTypes.{BelowEndless, endlessness, argument_list-Endless, scalar_behind-Endless, type_behind-Endless, type_id-Endless}
+use Rattle.cx_parse_decl.proofs.EndlessRequires.{constraint-Endless}
 use Rattle.cx_parse_decl.proofs.EndlessExpressions.{levels-Endless, exprs_until-Endless, behind_head-Endless, behind_core-Endless, tail-Endless, expr_behind-Endless, expr-Endless}
 
 -- the productions of a level that stand within statements
@@ -43,10 +44,6 @@ module _ {b : Below} (h : BelowEndless b) where
   auto_variable_behind-Endless : (c : Context) (is_constexpr : Bool) (of : Numbered AutoTree) → Endless (auto_variable_behind b c is_constexpr of)
   unfolding auto_variable_behind
   auto_variable_behind-Endless c is_constexpr of = search (endlessness, value_init-Endless) depth 13
-
-  constraint-Endless : (c : Context) (n : ℕ) → Endless (constraint b c n)
-  unfolding constraint
-  constraint-Endless c n = search (endlessness, argument_list-Endless h) depth 13
 
 const_behind_auto-Endless : (c : Context) (before : Bool) → Endless (const_behind_auto c before)
 unfolding const_behind_auto
@@ -184,17 +181,17 @@ module _ {b : Within} (h : WithinEndless b) where
   unfolding stmt
   stmt-Endless c n = search (endlessness, h.bare) depth 13
 
-pub unit_levels-Endless : (n : ℕ) → WithinEndless (unit_levels n)
+pub unit_levels-Endless : (requires : Bool) (n : ℕ) → WithinEndless (unit_levels requires n)
 unfolding unit_levels
-unit_levels-Endless zero = record {
-  base = levels-Endless 0;
+unit_levels-Endless requires zero = record {
+  base = levels-Endless requires 0;
   stmt = λ c m. closed-Endless;
   bare = λ c m. closed-Endless;
   head = λ c m. closed-Endless;
 }
-unit_levels-Endless (suc n) = record {
-  base = levels-Endless (suc n);
-  stmt = stmt-Endless (unit_levels-Endless n);
-  bare = bare_stmt-Endless (unit_levels-Endless n);
-  head = for_head-Endless (levels-Endless n);
+unit_levels-Endless requires (suc n) = record {
+  base = levels-Endless requires (suc n);
+  stmt = stmt-Endless (unit_levels-Endless requires n);
+  bare = bare_stmt-Endless (unit_levels-Endless requires n);
+  head = for_head-Endless (levels-Endless requires n);
 }

@@ -2,6 +2,7 @@ pub mod Units
 pub mod Numbers
 pub mod Endless
 pub mod EndlessTypes
+pub mod EndlessRequires
 pub mod EndlessExpressions
 pub mod EndlessStatements
 pub mod Ends

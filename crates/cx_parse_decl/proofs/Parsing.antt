@@ -8,8 +8,9 @@ use Rattle.cx_scope.specs.Frames.{Frames, entered}
 use Rattle.cx_tree.specs.Declarations.{UnitTree}
 use Rattle.cx_grammar.specs.Pieces.{Piece, pieces}
 use Rattle.cx_grammar.specs.Production.{Stopped, Stops, ◌>>>◌, read_token, times, repeat}
+use Rattle.cx_grammar.specs.Expressions.{no_requires}
 use Rattle.cx_grammar.specs.Declarations.{unit_levels}
-use Rattle.cx_grammar.specs.Statements.{Named}
+use Rattle.cx_grammar.specs.Types.{Named}
 use Rattle.cx_grammar.specs.Declarations.{is_not_end}
 use Rattle.cx_parse_decl.specs.Functions.{more_function, outermost, is_end, unit}
 use Rattle.cx_parse_decl.specs.Units.{depth, answer, unit_at}
@@ -20,12 +21,12 @@ abbrev pub Functions : Type 0
 Functions = Result (Named UnitTree × List Piece) Stopped
 
 abbrev pub functions_read : ℕ → Frames → List Piece → Functions
-functions_read n names ps = (repeat is_not_end (more_function (unit_levels depth) outermost) ([], n, names)).read 256 ps
+functions_read n names ps = (repeat is_not_end (more_function (unit_levels no_requires depth) outermost) ([], n, names)).read 256 ps
 
 pub functions_start : (items : UnitTree) (n : ℕ) (names : Frames) (ps : List Piece) → items ≡ []
-    → (k : ℕ) × (length ps ≤ k) × ((times (suc k) is_not_end (more_function (unit_levels depth) outermost) (items, n, names)).read 256 ps ≡ functions_read n names ps)
+    → (k : ℕ) × (length ps ≤ k) × ((times (suc k) is_not_end (more_function (unit_levels no_requires depth) outermost) (items, n, names)).read 256 ps ≡ functions_read n names ps)
 functions_start items n names ps e =
-    (length ps, omega arith, ap (λ (z : UnitTree). (times (suc (length ps)) is_not_end (more_function (unit_levels depth) outermost) (z, n, names)).read 256 ps) e)
+    (length ps, omega arith, ap (λ (z : UnitTree). (times (suc (length ps)) is_not_end (more_function (unit_levels no_requires depth) outermost) (z, n, names)).read 256 ps) e)
 
 pub goes_on : (end more : Bool) → end ≡ not more → end ≡ false → more ≡ true
 goes_on end true e f = refl

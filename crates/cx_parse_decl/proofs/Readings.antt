@@ -9,7 +9,9 @@ use Rattle.cx_grammar.specs.Production.{Production, Stopped, give, ◌>>=◌, to
 use Rattle.cx_grammar.specs.Words.{word}
 use Rattle.cx_grammar.specs.Names.{Context}
 use Rattle.cx_scope.specs.Frames.{entered}
-use Rattle.cx_grammar.specs.Statements.{Named, Within}
+use Rattle.cx_grammar.specs.Types.{Named}
+use Rattle.cx_grammar.specs.Statements.{Within}
+use Rattle.cx_grammar.specs.Expressions.{no_requires}
 use Rattle.cx_grammar.specs.Declarations.{unit_levels, is_end_kind, is_not_end}
 use Rattle.cx_grammar.specs.Laws.{IsTreeWithin, BeginsWithin, IsTree, Begins, Farthest, IsFaultAt, Answers, Tree, Fault, TooDeep, Short}
 use Rattle.cx_grammar.proofs.GrammarLaws.{front_first}
@@ -84,10 +86,10 @@ tree_begins us u t = record { level = t.level; front = (units-Grows t.level).low
 -- what a unit's pieces end with is their end
 no_rest : (ps us rest : List Piece) (u : UnitTree) → Closes ps → ps ≡ us ++ rest → IsTreeWithin load_limit units us u → rest ≡ []
 no_rest ps us rest u c e t =
-    let k = unit_closed (unit_levels t.level) load_limit us [] u t.whole in
+    let k = unit_closed (unit_levels no_requires t.level) load_limit us [] u t.whole in
     nothing_behind k.front k.last rest c.front c.last k.closes c.others (sym (ap (λ (z : List Piece). z ++ rest) k.parts) ∙ (sym e ∙ c.parts))
 
-found_by : (ts : List TokenTree) (u : UnitTree) (r : Result (UnitTree × List Piece) Stopped) → Closes (pieces ts) → answer r ≡ Ok u → Answers load_limit units (pieces ts) r → IsUnit ts u
+found_by : (ts : List TokenTree) (u : UnitTree) (r : Result (UnitTree × List Piece) Stopped) → Closes (pieces ts) → answer r ≡ Ok u → Answers no_requires load_limit units (pieces ts) r → IsUnit ts u
 found_by ts u r c e (Tree us rest x d far t) =
     let none : rest ≡ [] = no_rest (pieces ts) us rest x c far.split t in
     let here : us ≡ pieces ts = sym (append-nil us) ∙ (ap (λ (z : List Piece). us ++ z) (sym none) ∙ sym far.split) in
@@ -101,7 +103,7 @@ nothing : (ps : List Piece) → length ps ≤ 0 → ps ≡ []
 nothing [] h = refl
 nothing (p ∷ ps) h = absurd (omega arith)
 
-only_by : (ts : List TokenTree) (u : UnitTree) (r : Result (UnitTree × List Piece) Stopped) → IsUnit ts u → Answers load_limit units (pieces ts) r → answer r ≡ Ok u
+only_by : (ts : List TokenTree) (u : UnitTree) (r : Result (UnitTree × List Piece) Stopped) → IsUnit ts u → Answers no_requires load_limit units (pieces ts) r → answer r ≡ Ok u
 only_by ts u r w (Tree us rest x d far t) =
     let all = far.most (pieces ts) [] (sym (append-nil (pieces ts))) (unit_laws.trees_begin (pieces ts) u (load_limit, w)) in
     let split = length-append us rest in
@@ -119,7 +121,7 @@ only_by ts u r w (TooDeep us t rest d split k begins deep) =
     absurd (deep (first_within (us ++ t ∷ []) rest (subst (λ (z : List Piece). BeginsWithin load_limit units z) (split ∙ sym (append_assoc us (t ∷ []) rest)) (tree_begins (pieces ts) u w))))
 only_by ts u r w (Short d k none) = absurd (none u (load_limit, w))
 
-read_answers : (ts : List TokenTree) → Answers load_limit units (pieces ts) ((units depth).read load_limit (pieces ts))
+read_answers : (ts : List TokenTree) → Answers no_requires load_limit units (pieces ts) ((units depth).read load_limit (pieces ts))
 read_answers ts = unit_laws.answers load_limit depth (pieces ts) (omega arith) (omega arith)
 
 pub one_unit : (ts : List TokenTree) (u v : UnitTree) → IsTree units (pieces ts) u → IsTree units (pieces ts) v → u ≡ v
@@ -135,11 +137,12 @@ unit_only ts u w = only_by ts u ((units depth).read load_limit (pieces ts)) w (r
 
 -- ---- what is refused
 
-fault_of : (t : Piece) (token : TokenTree) (r : Refusal) → t.token ≡ token → IsFaultAt t r → IsFaultOf token r
+fault_of : (t : Piece) (token : TokenTree) (r : Refusal) → t.token ≡ token → IsFaultAt no_requires t r → IsFaultOf token r
 unfolding word
-fault_of t token r e is = subst (λ (z : TokenTree). IsFaultOf z r) e is
+fault_of t token r e (inl q) = subst (λ (z : TokenTree). IsFaultOf z r) e (inl q)
+fault_of t token r e (inr (none, w, q)) = subst (λ (z : TokenTree). IsFaultOf z r) e (inr (w, q))
 
-misfit_by : (ts : List TokenTree) (us : List Piece) (t : Piece) (rest : List Piece) (r : Refusal) → IsFaultAt t r → Farthest units (pieces ts) us (t ∷ rest) → BeginsWithin load_limit units us → OfToken ts us t → IsMisfit ts r
+misfit_by : (ts : List TokenTree) (us : List Piece) (t : Piece) (rest : List Piece) (r : Refusal) → IsFaultAt no_requires t r → Farthest units (pieces ts) us (t ∷ rest) → BeginsWithin load_limit units us → OfToken ts us t → IsMisfit ts r
 misfit_by ts us t rest r is far k o = record {
   front = o.front;
   token = o.token;
@@ -156,15 +159,15 @@ misfit_by ts us t rest r is far k o = record {
         let e = length-append us (t ∷ []) in
         omega arith
 
-stops_by : (ts : List TokenTree) (r : Refusal) (m : Result (UnitTree × List Piece) Stopped) → Closes (pieces ts) → answer m ≡ Err r → Answers load_limit units (pieces ts) m → IsMisfit ts r ⊎ IsTooDeep ts r
+stops_by : (ts : List TokenTree) (r : Refusal) (m : Result (UnitTree × List Piece) Stopped) → Closes (pieces ts) → answer m ≡ Err r → Answers no_requires load_limit units (pieces ts) m → IsMisfit ts r ⊎ IsTooDeep ts r
 stops_by ts r m c e (Tree us rest x d far t) = absurd (cc)
 stops_by ts r m c e (Fault us t rest q d is far k none) =
     let same : q ≡ r = cc in
-    inl (misfit_by ts us t rest r (subst (λ (z : Refusal). IsFaultAt t z) same is) far k (of_token ts us rest t far.split))
+    inl (misfit_by ts us t rest r (subst (λ (z : Refusal). IsFaultAt no_requires t z) same is) far k (of_token ts us rest t far.split))
 stops_by ts r m c e (TooDeep us t rest d split k begins deep) =
     inr (record { front = us; piece = t; behind = rest; parts = split; passed = cc; before = k; begins = begins; too_deep = deep })
 stops_by ts r m c e (Short d k none) =
-    let w = unit_begun (unit_levels-Endless k.level) load_limit (pieces ts) (closes_last (pieces ts) c) k.front in
+    let w = unit_begun (unit_levels-Endless no_requires k.level) load_limit (pieces ts) (closes_last (pieces ts) c) k.front in
     absurd (none w.0 (load_limit, record { level = k.level; whole = w.1 }))
 
 pub unit_stops : (ts : List TokenTree) (r : Refusal) → EndsOnce ts → AreSpelled ts → unit_at ts ≡ Err r → IsMisfit ts r ⊎ IsTooDeep ts r

@@ -1,9 +1,11 @@
 -- The laws of the production of a unit of functions, from those of blocks.
-use Rattle.std.proofs.Common.{◌≤◌, ℕ, suc, ◌+◌, arith}
+use Rattle.std.proofs.Common.{◌≤◌, Bool, ℕ, suc, ◌+◌, arith}
 use Rattle.cx_tree.specs.Declarations.{UnitTree}
 use Rattle.cx_grammar.specs.Production.{repeat}
 use Rattle.cx_grammar.specs.Names.{Context}
-use Rattle.cx_grammar.specs.Statements.{Named, Within}
+use Rattle.cx_grammar.specs.Types.{Named}
+use Rattle.cx_grammar.specs.Statements.{Within}
+use Rattle.cx_grammar.specs.Expressions.{no_requires}
 use Rattle.cx_grammar.specs.Declarations.{unit_levels, is_not_end}
 use Rattle.cx_grammar.specs.Laws.{GrammarLaws, WholeTokens}
 use Rattle.cx_grammar.proofs.Lawful.{Lawful, Grows}
@@ -38,35 +40,35 @@ module _ (b : Within) where
   unfolding unit
   unit-Even = search evenness depth 7 fits 4000
 
-module _ {b d : Within} (h : WithinGrows b d) (low : WithinFilled b) (high : WithinFilled d) where
-  function-Grows : (c : Context) (n : ℕ) → Grows (function b c n) (function d c n)
+module _ {requires : Bool} {b d : Within} (h : WithinGrows requires b d) (low : WithinFilled requires b) (high : WithinFilled requires d) where
+  function-Grows : (c : Context) (n : ℕ) → Grows requires (function b c n) (function d c n)
   unfolding function
   function-Grows c n = search (growing, block-Grows h low high) depth 9
 
-  more_function-Grows : (c : Context) (so_far : Named UnitTree) → Grows (more_function b c so_far) (more_function d c so_far)
+  more_function-Grows : (c : Context) (so_far : Named UnitTree) → Grows requires (more_function b c so_far) (more_function d c so_far)
   unfolding more_function
   more_function-Grows c so_far = search (growing, function-Grows) depth 5
 
-  more_function-Steps : (c : Context) (so_far : Named UnitTree) → Steps (more_function b c so_far) (more_function d c so_far)
+  more_function-Steps : (c : Context) (so_far : Named UnitTree) → Steps requires (more_function b c so_far) (more_function d c so_far)
   more_function-Steps c so_far = filled-Steps (more_function-Grows c so_far) (more_function-Filled b c so_far) (more_function-Filled d c so_far)
 
-  unit-Grows : Grows (unit b) (unit d)
+  unit-Grows : Grows requires (unit b) (unit d)
   unfolding unit
   unit-Grows = search (growing, turns-Grows, more_function-Steps) depth 6
 
 -- units at each number of levels, and at one more
-pub units-Grows : (n : ℕ) → Grows (units n) (units (suc n))
+pub units-Grows : (n : ℕ) → Grows no_requires (units n) (units (suc n))
 units-Grows n = unit-Grows (unit_levels-Grows n) (levels-Filled n) (levels-Filled (suc n))
 
-module _ {b d : Within} (g : WithinGrows b d) (low : WithinFilled b) (high : WithinFilled d) (h : WithinAlone b) where
-  function-Alone : (c : Context) (n : ℕ) → Alone (function b c n)
+module _ {requires : Bool} {b d : Within} (g : WithinGrows requires b d) (low : WithinFilled requires b) (high : WithinFilled requires d) (h : WithinAlone requires b) where
+  function-Alone : (c : Context) (n : ℕ) → Alone requires (function b c n)
   unfolding function
   function-Alone c n = search (aloneness, block-Alone g low high h) depth 11
 
-  functions-Lawful : (c : Context) (x : Named UnitTree) → Lawful (repeat is_not_end (more_function b c) x)
+  functions-Lawful : (c : Context) (x : Named UnitTree) → Lawful requires (repeat is_not_end (more_function b c) x)
   functions-Lawful c x = (turns-Grows is_not_end (more_function-Steps g low high c) x).low
 
-  unit-Alone : Alone (unit b)
+  unit-Alone : Alone requires (unit b)
   unfolding unit
   unit-Alone = search (aloneness, before-Alone, functions-Lawful) depth 8
 
@@ -74,7 +76,7 @@ module _ {b d : Within} (g : WithinGrows b d) (low : WithinFilled b) (high : Wit
 enough_up : (limit n load : ℕ) → Enough limit n load → Enough limit n (load + 1)
 enough_up limit n load k = record { left = omega (arith, k.left); more = omega (arith, k.more) }
 
-module _ {limit n : ℕ} {b d : Within} (g : WithinGrows b d) (low : WithinFilled b) (high : WithinFilled d) (f : WithinFirm limit n b d) where
+module _ {requires : Bool} {limit n : ℕ} {b d : Within} (g : WithinGrows requires b d) (low : WithinFilled requires b) (high : WithinFilled requires d) (f : WithinFirm limit n b d) where
   function-Firm : (c : Context) (m : ℕ) → Enough limit (suc n) c.load → Firm limit (function b c m) (function d c m)
   unfolding function
   function-Firm c m k = search (firmness, block-Firm g low high f) depth 11
@@ -93,12 +95,12 @@ module _ {limit n : ℕ} {b d : Within} (g : WithinGrows b d) (low : WithinFille
 room : (limit m : ℕ) → limit + 2 ≤ m + 0 → 2 ≤ m → Enough limit (suc m) 0
 room limit m h o = record { left = omega arith; more = omega arith }
 
-pub unit_laws : GrammarLaws 0 units
+pub unit_laws : GrammarLaws no_requires 0 units
 unit_laws = lasting_laws 0 units (record {
   grows = λ m. units-Grows m;
   alone = λ m. unit-Alone (unit_levels-Grows m) (levels-Filled m) (levels-Filled (suc m)) (unit_levels-Alone m);
-  firm = λ limit m h o. unit-Firm (unit_levels-Grows m) (levels-Filled m) (levels-Filled (suc m)) (unit_levels-Firm limit m) (room limit m h o);
+  firm = λ limit m h o. unit-Firm (unit_levels-Grows m) (levels-Filled m) (levels-Filled (suc m)) (unit_levels-Firm limit no_requires m) (room limit m h o);
 })
 
 pub unit_tokens : WholeTokens units
-unit_tokens = even_tokens units (λ m. unit-Even (unit_levels m))
+unit_tokens = even_tokens units (λ m. unit-Even (unit_levels no_requires m))

@@ -1,4 +1,4 @@
--- Units of functions are units of the whole grammar, with the loads, the names and the nodes that they have there.
+-- Units of functions are units of the language, with the loads, the names and the nodes that they have there.
 use Rattle.std.proofs.Common.{◌≡◌, ℕ, zero, suc, ◌+◌, ◌≤◌, Bool, true, false, ◌&&◌, List, [], ◌∷◌, ◌++◌, codes, None, Some, refl, sym, ap, ◌∙◌, subst, true≢false, append-nil, arith}
 use Rattle.std.proofs.lemmas.List.{append_cancel_right}
 use Rattle.std.specs.Str.{bytes_eq}
@@ -13,15 +13,16 @@ use Rattle.cx_tree.specs.Statements.{StmtTree}
 use Rattle.cx_tree.specs.Declarations.{DeclTree, UnitTree}
 use Rattle.cx_grammar.specs.Pieces.{Piece, Half}
 use Rattle.cx_grammar.specs.Words.{is_word_kind, is_punct_kind, is_name_kind, is_all, word, punct, any_name, spelling}
-use Rattle.cx_grammar.specs.Names.{Context, deeper, inside}
-use Rattle.cx_grammar.specs.Types.{Numbered, Below, numbered, one_word, core, scalar_only, scalar_core, word_core, scalar_behind, type_id, bare_type, type_behind, maybe_const, maybe_reference}
-use Rattle.cx_grammar.specs.Expressions.{levels}
-use Rattle.cx_grammar.specs.Statements.{Named, Within, with_names, block}
+use Rattle.cx_grammar.specs.Names.{Context, deeper, inside, with_names}
+use Rattle.cx_grammar.specs.Types.{Numbered, Below, numbered, one_word, core, scalar_only, scalar_core, word_core, scalar_behind, type_id, bare_type, type_behind, maybe_const, maybe_reference, Named}
+use Rattle.cx_grammar.specs.Expressions.{levels, no_requires}
+use Rattle.cx_grammar.specs.Statements.{Within, block}
 use Rattle.cx_grammar.specs.Declarations.{unit as unit_of_declarations, more_decl, is_not_end, unit_levels, parameters, no_specifiers, specifiers_from, decl, variable_or_function, function_behind, maybe_const_member, trailing, function_body}
-use Rattle.cx_grammar.specs.Laws.{IsTreeWithin}
+use Rattle.cx_grammar.specs.Laws.{Levelled, IsTreeWithin}
 use Rattle.cx_grammar.specs.Production.{Production, give, ◌>>=◌, times, begins, Chosen}
 use Rattle.cx_grammar.proofs.Lawful.{Grows}
 use Rattle.cx_grammar.proofs.Combinators.{ok_further}
+use Rattle.cx_grammar_laws.specs.Language.{IsPartOf}
 use Rattle.cx_parse_decl.specs.Functions.{function_of, with_function, function, more_function, outermost, unit}
 use Rattle.cx_parse_decl.specs.Units.{units}
 use Rattle.cx_parse_decl.specs.Whole.{whole_units}
@@ -204,55 +205,62 @@ block_parts b c n l us behind s w =
 one_piece : (us is bs : List Piece) (t u : Piece) (vs : List Piece) → us ≡ is ++ bs → is ≡ t ∷ [] → t ≡ u → bs ≡ vs → us ≡ u ∷ vs
 one_piece us is bs t u vs p q e d = p ∙ (ap (λ (z : List Piece). z ++ bs) q ∙ (λ i. e i ∷ d i))
 
-function_decl : (m : ℕ) (c : Context) (n l : ℕ) (us behind : List Piece) (y : Named DeclTree) → (function (unit_levels (suc m)) c n).whole l us behind y → (decl (unit_levels (suc m)) c n).whole l us behind y
+function_decl : (requires : Bool) (m : ℕ) (c : Context) (n l : ℕ) (us behind : List Piece) (y : Named DeclTree) → (function (unit_levels requires (suc m)) c n).whole l us behind y → (decl (unit_levels requires (suc m)) c n).whole l us behind y
 unfolding function unit_levels levels parameters begins
-function_decl m c n l us behind y (i, is1, b1, p1, (q1, f1, l1), (nm, is2, b2, p2, (q2, f2, l2), (op, is3, b3, p3, (q3, f3, l3), (cl, is4, b4, p4, (q4, f4, l4), (s, bs, ns, p5, wb, (none, same)))))) =
+function_decl requires m c n l us behind y (i, is1, b1, p1, (q1, f1, l1), (nm, is2, b2, p2, (q2, f2, l2), (op, is3, b3, p3, (q3, f3, l3), (cl, is4, b4, p4, (q4, f4, l4), (s, bs, ns, p5, wb, (none, same)))))) =
     let inner = with_names c (entered (with_function c.names nm)) in
-    let w = subst (λ (z : List Piece). (block (unit_levels (suc m)) inner (n + 1)).whole l bs (z ++ behind) s) none wb in
-    let k = block_parts (unit_levels (suc m)) inner (n + 1) l bs behind s w in
+    let w = subst (λ (z : List Piece). (block (unit_levels requires (suc m)) inner (n + 1)).whole l bs (z ++ behind) s) none wb in
+    let k = block_parts (unit_levels requires (suc m)) inner (n + 1) l bs behind s w in
     let same_int = as_word (codes "int") i f1 in
     let same_name = as_name nm f2 in
     let all : us ≡ a_word (codes "int") i.token.at i.half ∷ a_name nm.token.text nm.token.at nm.half ∷ op ∷ cl ∷ k.first ∷ k.others =
     one_piece us is1 b1 i (a_word (codes "int") i.token.at i.half) _ p1 q1 same_int (one_piece b1 is2 b2 nm (a_name nm.token.text nm.token.at nm.half) _ p2 q2 same_name
     (one_piece b2 is3 b3 op op _ p3 q3 refl (one_piece b3 is4 b4 cl cl _ p4 q4 refl (p5 ∙ (ap (λ (z : List Piece). bs ++ z) none ∙ (append-nil bs ∙ k.parts)))))) in
-    let it : (decl (unit_levels (suc m)) c n).whole l (a_word (codes "int") i.token.at i.half ∷ a_name nm.token.text nm.token.at nm.half ∷ op ∷ cl ∷ k.first ∷ k.others) behind (function_of n i nm s, s.1 + 1, with_function c.names nm) =
-    decl_whole (unit_levels (suc m)) c n l i.token.at i.half nm.token.text nm.token.at nm.half op cl k.first k.others behind s l1 f3 f4 k.opens
-    (core_whole (levels m) (deeper c) n l i.token.at i.half (a_name nm.token.text nm.token.at nm.half ∷ op ∷ cl ∷ k.first ∷ (k.others ++ behind)) l1)
+    let it : (decl (unit_levels requires (suc m)) c n).whole l (a_word (codes "int") i.token.at i.half ∷ a_name nm.token.text nm.token.at nm.half ∷ op ∷ cl ∷ k.first ∷ k.others) behind (function_of n i nm s, s.1 + 1, with_function c.names nm) =
+    decl_whole (unit_levels requires (suc m)) c n l i.token.at i.half nm.token.text nm.token.at nm.half op cl k.first k.others behind s l1 f3 f4 k.opens
+    (core_whole (levels requires m) (deeper c) n l i.token.at i.half (a_name nm.token.text nm.token.at nm.half ∷ op ∷ cl ∷ k.first ∷ (k.others ++ behind)) l1)
     (first_chosen _ _ _ f4 (refl, refl))
     k.whole in
-    subst (λ (z : List Piece). (decl (unit_levels (suc m)) c n).whole l z behind y) (sym all)
-    (subst (λ (z : Named DeclTree). (decl (unit_levels (suc m)) c n).whole l (a_word (codes "int") i.token.at i.half ∷ a_name nm.token.text nm.token.at nm.half ∷ op ∷ cl ∷ k.first ∷ k.others) behind z) (sym same) it)
+    subst (λ (z : List Piece). (decl (unit_levels requires (suc m)) c n).whole l z behind y) (sym all)
+    (subst (λ (z : Named DeclTree). (decl (unit_levels requires (suc m)) c n).whole l (a_word (codes "int") i.token.at i.half ∷ a_name nm.token.text nm.token.at nm.half ∷ op ∷ cl ∷ k.first ∷ k.others) behind z) (sym same) it)
 
 -- ---- units
 
-step_whole : (m : ℕ) (x : Named UnitTree) (l : ℕ) (us behind : List Piece) (y : Named UnitTree) → (more_function (unit_levels (suc m)) outermost x).whole l us behind y
-    → (more_decl (unit_levels (suc (suc m))) outermost x).whole l us behind y
+step_whole : (requires : Bool) (m : ℕ) (x : Named UnitTree) (l : ℕ) (us behind : List Piece) (y : Named UnitTree) → (more_function (unit_levels requires (suc m)) outermost x).whole l us behind y
+    → (more_decl (unit_levels requires (suc (suc m))) outermost x).whole l us behind y
 unfolding more_function unit_levels
-step_whole m x l us behind y (f, fs, ns, p, w, k) = (f, fs, ns, p, function_decl m (deeper (with_names outermost x.2)) x.1 l fs (ns ++ behind) f w, k)
+step_whole requires m x l us behind y (f, fs, ns, p, w, k) = (f, fs, ns, p, function_decl requires m (deeper (with_names outermost x.2)) x.1 l fs (ns ++ behind) f w, k)
 
-module _ (m l : ℕ) where
+module _ (requires : Bool) (m l : ℕ) where
   chosen_whole : (c : Bool) (n : ℕ) (x : Named UnitTree) (us behind : List Piece) (y : Named UnitTree)
-      → ((x : Named UnitTree) (us behind : List Piece) (y : Named UnitTree) → (times n is_not_end (more_function (unit_levels (suc m)) outermost) x).whole l us behind y
-      → (times n is_not_end (more_decl (unit_levels (suc (suc m))) outermost) x).whole l us behind y)
-      → Chosen c ((more_function (unit_levels (suc m)) outermost x >>= times n is_not_end (more_function (unit_levels (suc m)) outermost)).whole l us behind y) ((give x).whole l us behind y)
-      → Chosen c ((more_decl (unit_levels (suc (suc m))) outermost x >>= times n is_not_end (more_decl (unit_levels (suc (suc m))) outermost)).whole l us behind y) ((give x).whole l us behind y)
-  chosen_whole true n x us behind y again (z, vs, ws, p, w, k) = (z, vs, ws, p, step_whole m x l vs (ws ++ behind) z w, again z ws behind y k)
+      → ((x : Named UnitTree) (us behind : List Piece) (y : Named UnitTree) → (times n is_not_end (more_function (unit_levels requires (suc m)) outermost) x).whole l us behind y
+      → (times n is_not_end (more_decl (unit_levels requires (suc (suc m))) outermost) x).whole l us behind y)
+      → Chosen c ((more_function (unit_levels requires (suc m)) outermost x >>= times n is_not_end (more_function (unit_levels requires (suc m)) outermost)).whole l us behind y) ((give x).whole l us behind y)
+      → Chosen c ((more_decl (unit_levels requires (suc (suc m))) outermost x >>= times n is_not_end (more_decl (unit_levels requires (suc (suc m))) outermost)).whole l us behind y) ((give x).whole l us behind y)
+  chosen_whole true n x us behind y again (z, vs, ws, p, w, k) = (z, vs, ws, p, step_whole requires m x l vs (ws ++ behind) z w, again z ws behind y k)
   chosen_whole false n x us behind y again w = w
 
-  times_whole : (n : ℕ) (x : Named UnitTree) (us behind : List Piece) (y : Named UnitTree) → (times n is_not_end (more_function (unit_levels (suc m)) outermost) x).whole l us behind y
-      → (times n is_not_end (more_decl (unit_levels (suc (suc m))) outermost) x).whole l us behind y
+  times_whole : (n : ℕ) (x : Named UnitTree) (us behind : List Piece) (y : Named UnitTree) → (times n is_not_end (more_function (unit_levels requires (suc m)) outermost) x).whole l us behind y
+      → (times n is_not_end (more_decl (unit_levels requires (suc (suc m))) outermost) x).whole l us behind y
   times_whole zero x us behind y w = absurd w
   times_whole (suc n) x us behind y w = chosen_whole (begins is_not_end (us ++ behind)) n x us behind y (times_whole n) w
 
-unit_whole : (m l : ℕ) (us rest : List Piece) (u : UnitTree) → (unit (unit_levels (suc m))).whole l us rest u → (unit_of_declarations (unit_levels (suc (suc m)))).whole l us rest u
+unit_whole : (requires : Bool) (m l : ℕ) (us rest : List Piece) (u : UnitTree) → (unit (unit_levels requires (suc m))).whole l us rest u → (unit_of_declarations (unit_levels requires (suc (suc m)))).whole l us rest u
 unfolding unit unit_of_declarations
-unit_whole m l us rest u (x, vs, ws, p, (n, w), k) = (x, vs, ws, p, (n, times_whole m l n ([], 0, entered []) vs (ws ++ rest) x w), k)
+unit_whole requires m l us rest u (x, vs, ws, p, (n, w), k) = (x, vs, ws, p, (n, times_whole requires m l n ([], 0, entered []) vs (ws ++ rest) x w), k)
 
 -- a tree at some number of levels is one at one level more
-whole_up : {A : Type 0} {p q : Production A} → Grows p q → (l : ℕ) (us rest : List Piece) (x : A) → p.whole l us rest x → q.whole l us rest x
+whole_up : {A : Type 0} {p q : Production A} → Grows no_requires p q → (l : ℕ) (us rest : List Piece) (x : A) → p.whole l us rest x → q.whole l us rest x
 whole_up {q} g l us rest x w =
     let s = g.high.sound l (us ++ rest) x rest (ok_further (g.agrees l (us ++ rest)) x rest (g.low.complete l us rest x w)) in
     subst (λ (u : List Piece). q.whole l u rest x) (append_cancel_right s.tree us rest (sym s.split)) s.whole
 
-pub whole_unit : (limit : ℕ) (ts : List Piece) (u : UnitTree) → IsTreeWithin limit units ts u → IsTreeWithin limit whole_units ts u
-whole_unit limit ts u t = record { level = suc (suc t.level); whole = unit_whole t.level limit ts [] u (whole_up (units-Grows t.level) limit ts [] u t.whole) }
+-- units of declarations in which requires-expressions are not read
+abbrev pub read_units : Levelled UnitTree
+read_units level = unit_of_declarations (unit_levels no_requires level)
+
+pub read_unit : (limit : ℕ) (ts : List Piece) (u : UnitTree) → IsTreeWithin limit units ts u → IsTreeWithin limit read_units ts u
+read_unit limit ts u t = record { level = suc (suc t.level); whole = unit_whole no_requires t.level limit ts [] u (whole_up (units-Grows t.level) limit ts [] u t.whole) }
+
+pub whole_unit : IsPartOf read_units whole_units → (limit : ℕ) (ts : List Piece) (u : UnitTree) → IsTreeWithin limit units ts u → IsTreeWithin limit whole_units ts u
+whole_unit part limit ts u t = part.trees limit ts u (read_unit limit ts u t)

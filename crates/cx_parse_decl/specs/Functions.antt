@@ -14,9 +14,9 @@ use Rattle.cx_tree.specs.Declarations.{DeclTree, FunctionDecl, UnitTree}
 use Rattle.cx_grammar.specs.Pieces.{Piece}
 use Rattle.cx_grammar.specs.Production.{Production, give, ◌>>=◌, token, repeat}
 use Rattle.cx_grammar.specs.Words.{word, punct, any_name}
-use Rattle.cx_grammar.specs.Names.{Context, deeper}
-use Rattle.cx_grammar.specs.Types.{Numbered, numbered}
-use Rattle.cx_grammar.specs.Statements.{Named, Within, with_names, block}
+use Rattle.cx_grammar.specs.Names.{Context, deeper, with_names}
+use Rattle.cx_grammar.specs.Types.{Numbered, numbered, Named}
+use Rattle.cx_grammar.specs.Statements.{Within, block}
 use Rattle.cx_grammar.specs.Declarations.{no_specifiers, is_end_kind, is_not_end}
 
 -- the function that was read: its type is `int`, it has no parameters, and its body is a block

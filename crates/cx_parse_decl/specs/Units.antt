@@ -9,6 +9,7 @@ use Rattle.cx_tree.specs.Declarations.{UnitTree}
 use Rattle.cx_grammar.specs.Pieces.{Piece, as_piece, All, pieces}
 use Rattle.cx_grammar.specs.Words.{misfit, refused, word}
 use Rattle.cx_grammar.specs.Production.{Stopped, At}
+use Rattle.cx_grammar.specs.Expressions.{no_requires}
 use Rattle.cx_grammar.specs.Declarations.{unit_levels}
 use Rattle.cx_grammar.specs.Laws.{Levelled, IsTreeWithin, BeginsWithin, Begins}
 use Rattle.cx_parse_decl.specs.Functions.{unit}
@@ -23,7 +24,7 @@ depth = 262
 
 -- Units, however deep the constructs within their bodies are nested.
 abbrev pub units : Levelled UnitTree
-units level = unit (unit_levels level)
+units level = unit (unit_levels no_requires level)
 
 -- The tokens are a unit, of no load above the limit.
 abbrev pub IsUnit : List TokenTree → UnitTree → Type 0

@@ -2,6 +2,7 @@
 
 ghost use Rattle.std.specs.Prelude.{◌≡◌, ◌+◌, ◌<◌, ◌≤◌, ◌^◌, length, IfOk};
 ghost use Rattle.cx_statements.specs.DeclarationViews.{decl_tree};
+ghost use Rattle.cx_grammar.specs.Expressions.{no_requires};
 ghost use Rattle.cx_grammar.specs.Declarations.{unit_levels};
 ghost use Rattle.cx_grammar.specs.Names.{deeper};
 ghost use Rattle.cx_grammar.specs.Production.{Gives};
@@ -27,7 +28,7 @@ pub(crate) fn function<'t, 's>(
 ) -> Read<'t, 's, Decl<'s>>
     requires scope { 0 < length scope.old }
     requires room { weight spot < 2 ^ 32 }
-    ensures exact { Gives (λ x. ((decl_tree x.0, x.1.next, scope.new), left_at x.1)) result ((productions.function (unit_levels depth) (deeper (unit_context scope.old)) spot.entry.next).read 256 (left_at spot.entry)) }
+    ensures exact { Gives (λ x. ((decl_tree x.0, x.1.next, scope.new), left_at x.1)) result ((productions.function (unit_levels no_requires depth) (deeper (unit_context scope.old)) spot.entry.next).read 256 (left_at spot.entry)) }
     ensures lightens { Lightens 16 spot.entry result }
     ensures counts { IfOk result (λ x. spot.entry.next < x.1.next) }
     ensures scope { IfOk result (λ x. 0 < length scope.new) }

@@ -1,4 +1,4 @@
-//! The laws of units of functions: each is the contract of a function that does nothing.
+//! The laws of units of functions: each is the contract of a function that has no effect.
 
 ghost use Rattle.std.specs.Prelude.{◌≡◌, ◌≤◌, ◌*◌, ◌⊎◌, ℕ, List, length, Ok, Err};
 ghost use Rattle.cx_base.specs.Refusal.{Refusal};
@@ -7,19 +7,24 @@ ghost use Rattle.cx_lexer.specs.Tokens.{TokenTree};
 ghost use Rattle.cx_tree.specs.Declarations.{UnitTree};
 ghost use Rattle.cx_tree.specs.Nodes.{IsNumberedFrom};
 ghost use Rattle.cx_tree.specs.UnitNodes.{unit_nodes};
+ghost use Rattle.cx_grammar.specs.Expressions.{no_requires};
 ghost use Rattle.cx_grammar.specs.Laws.{GrammarLaws, WholeTokens, IsTree, IsTreeWithin};
 ghost use Rattle.cx_grammar.specs.Pieces.{Piece, pieces};
 ghost use Rattle.cx_parse_decl.specs.Units.{units, IsUnit, IsMisfit, IsTooDeep, unit_at};
 ghost use Rattle.cx_parse_decl.specs.Whole.{whole_units};
 
+use cx_grammar_laws::units_of_the_language;
+
 /// Units of functions ([basic.link], [dcl.fct.def]).
 pub fn laws_of_functions()
-    ensures laws { GrammarLaws 0 units }
+    ensures laws { GrammarLaws no_requires 0 units }
     ensures tokens { WholeTokens units }
 
-    // Each is a unit of the whole grammar, with no load above the same limit.
+    // Each is a unit of the language, with no load above the same limit.
     ensures whole { (limit : ℕ) (ts : List Piece) (u : UnitTree) → IsTreeWithin limit units ts u → IsTreeWithin limit whole_units ts u }
-{}
+{
+    units_of_the_language();
+}
 
 /// What the tokens of a unit are.
 pub fn one_unit()

@@ -6,6 +6,7 @@ ghost use Rattle.cx_lexer.specs.Division.{EndsOnce, AreSpelled};
 ghost use Rattle.cx_lexer.specs.Tokens.{token_tree};
 ghost use Rattle.cx_scope.specs.Frames.{entered};
 ghost use Rattle.cx_statements.specs.DeclarationViews.{decl_tree, unit_tree};
+ghost use Rattle.cx_grammar.specs.Expressions.{no_requires};
 ghost use Rattle.cx_grammar.specs.Declarations.{unit_levels, is_end_kind, is_not_end};
 ghost use Rattle.cx_grammar.specs.Production.{Gives, begins, repeat};
 ghost use Rattle.cx_spots.specs.Spots.{Lightens, weight, left_at};
@@ -46,7 +47,7 @@ fn one_more<'t, 's>(
 ) -> Read<'t, 's, Vec<Decl<'s>>>
     requires scope { 0 < length scope.old }
     requires room { weight spot < 2 ^ 32 }
-    ensures exact { Gives (λ x. ((map decl_tree x.0.items, x.1.next, scope.new), left_at x.1)) result ((more_function (unit_levels depth) outermost (map decl_tree so_far.entry.items, spot.entry.next, scope.old)).read 256 (left_at spot.entry)) }
+    ensures exact { Gives (λ x. ((map decl_tree x.0.items, x.1.next, scope.new), left_at x.1)) result ((more_function (unit_levels no_requires depth) outermost (map decl_tree so_far.entry.items, spot.entry.next, scope.old)).read 256 (left_at spot.entry)) }
     ensures lightens { Lightens 16 spot.entry result }
     ensures counts { IfOk result (λ x. (spot.entry.next < x.1.next) × (length x.0.items ≡ length so_far.entry.items + 1)) }
     ensures scope { IfOk result (λ x. 0 < length scope.new) }
@@ -65,7 +66,7 @@ fn functions<'t, 's>(
 ) -> Read<'t, 's, Vec<Decl<'s>>>
     requires scope { 0 < length scope.old }
     requires room { weight spot < 2 ^ 32 }
-    ensures exact { Gives (λ x. ((map decl_tree x.0.items, x.1.next, scope.new), left_at x.1)) result ((repeat is_not_end (more_function (unit_levels depth) outermost) ([], spot.entry.next, scope.old)).read 256 (left_at spot.entry)) }
+    ensures exact { Gives (λ x. ((map decl_tree x.0.items, x.1.next, scope.new), left_at x.1)) result ((repeat is_not_end (more_function (unit_levels no_requires depth) outermost) ([], spot.entry.next, scope.old)).read 256 (left_at spot.entry)) }
     ensures counts { IfOk result (λ x. length x.0.items ≤ weight spot.entry) }
     ensures here { IfOk result (λ x. AtEnd (left_at x.1)) }
 {
