@@ -3,3 +3,4 @@ pub mod RequirementNodes
 pub mod PrintedRequires
 pub mod Printed
 pub mod Language
+pub mod Examples

@@ -1,11 +1,13 @@
 //! Further laws of the grammar. Each is the contract of a function that does nothing.
 #![tactic(auto)]
 
+mod examples;
 mod language;
 mod numbers;
 mod printed;
 mod requirements;
 
+pub use examples::requires_expressions_as_meant;
 pub use language::{expressions_of_the_language, units_of_the_language};
 pub use numbers::{numbers_of_declarations, numbers_of_statements, numbers_of_units};
 pub use printed::{
