@@ -1,11 +1,10 @@
 -- Counts of trees, and of lists one tree at a time.
-use Rattle.std.proofs.Common.{◌≡◌, ℕ, ◌+◌, ◌<◌, ◌≤◌, min, max, List, [], ◌∷◌, ◌++◌, length, get_or, take, sym, subst, add-one, take_all, arith}
+use Rattle.std.proofs.Common.{◌≡◌, ℕ, ◌+◌, ◌<◌, ◌≤◌, min, max, List, [], ◌∷◌, ◌++◌, length, get_or, map, take, sym, subst, add-one, take_all, arith}
 use Rattle.std.proofs.Math.Seq.{take-suc}
 use Rattle.cx_base.specs.declared.numbers.TermId.{TermId}
 use Rattle.cx_term.specs.declared.count.Count.{Count}
-use Rattle.cx_term.specs.Term.{Term}
+use Rattle.cx_term.specs.Term.{Term, arguments}
 use Rattle.cx_term.specs.Size.{nodes, all_nodes, depth, all_depth}
-use Rattle.cx_term.specs.Table.{each}
 use Rattle.cx_term.specs.Layout.{Counts}
 
 pub Counts-below_one : (c d : Count) (n m : ℕ) → Counts c n m → d.nodes ≡ min (c.nodes + 1) 65537 → d.depth ≡ c.depth + 1 → Counts d (1 + n) (1 + m)
@@ -16,23 +15,23 @@ Counts-few c n m h = omega (arith, h.nodes_are)
 
 pub ruleset counting = (Counts-below_one, Counts-few)
 
-nodes_push : (tree : TermId → Term) (ts : List TermId) (t : TermId) → all_nodes (each tree (ts ++ t ∷ [])) ≡ all_nodes (each tree ts) + nodes (tree t)
-unfolding each all_nodes
+nodes_push : (tree : TermId → Term) (ts : List TermId) (t : TermId) → all_nodes (arguments (map tree (ts ++ t ∷ []))) ≡ all_nodes (arguments (map tree ts)) + nodes (tree t)
+unfolding all_nodes
 nodes_push tree [] t = omega arith
 nodes_push tree (u ∷ ts) t = omega (arith, nodes_push tree ts t)
 
-depth_push : (tree : TermId → Term) (ts : List TermId) (t : TermId) → all_depth (each tree (ts ++ t ∷ [])) ≡ max (all_depth (each tree ts)) (depth (tree t))
-unfolding each all_depth
+depth_push : (tree : TermId → Term) (ts : List TermId) (t : TermId) → all_depth (arguments (map tree (ts ++ t ∷ []))) ≡ max (all_depth (arguments (map tree ts))) (depth (tree t))
+unfolding all_depth
 depth_push tree [] t = omega arith
 depth_push tree (u ∷ ts) t = omega (arith, depth_push tree ts t)
 
 -- how large the trees of a list are, and that they are not deep
 pub record CountsList (c : Count) (tree : TermId → Term) (ts : List TermId) : Type 0 where
-  pub counts : Counts c (all_nodes (each tree ts)) (all_depth (each tree ts))
-  pub shallow : all_depth (each tree ts) ≤ 512
+  pub counts : Counts c (all_nodes (arguments (map tree ts))) (all_depth (arguments (map tree ts)))
+  pub shallow : all_depth (arguments (map tree ts)) ≤ 512
 
 pub CountsList-none : (c : Count) (tree : TermId → Term) → c.nodes ≡ 0 → c.depth ≡ 0 → CountsList c tree []
-unfolding each all_nodes all_depth
+unfolding all_nodes all_depth
 CountsList-none c tree e f = record { counts = record { nodes_are = e; depth_is = f }; shallow = omega arith }
 
 -- one tree more

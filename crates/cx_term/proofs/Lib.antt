@@ -1,8 +1,7 @@
-pub mod Same
-pub mod Tables
+pub mod Trees
+pub mod Words
 pub mod Keys
 pub mod Stored
 pub mod Fields
 pub mod Counting
 pub mod Interning
-pub mod Lawful

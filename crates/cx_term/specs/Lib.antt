@@ -1,9 +1,7 @@
-pub mod Words
-pub mod WordCode
 pub mod Term
+pub mod TermCode
 pub mod Same
 pub mod Size
 pub mod Table
 pub mod Code
 pub mod Layout
-pub mod Laws

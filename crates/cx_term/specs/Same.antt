@@ -1,39 +1,20 @@
--- Equality of trees, decided.
-use Rattle.std.specs.Prelude.{Bool, true, false, ◌==◌, ◌&&◌}
-use Rattle.std.specs.Ordering.{int_eq}
-use Rattle.std.specs.Str.{bytes_eq}
-use Rattle.cx_base.specs.declared.value.Scalar.{Scalar}
-use Rattle.cx_base.specs.declared.value.Scalar.TheVariants as scalars
-use Rattle.cx_term.specs.Term.{Term, Arguments, param, scalar, void, struct, inst, const, ref, member, decltype, val, local, functions, form, nothing, argument}
-use Rattle.cx_term.specs.Words.{same_word}
+-- Equality of trees, decided: two trees are the same where they are stored alike.
+use Rattle.std.specs.Prelude.{Bool, true, false, List, ◌==◌, ◌&&◌}
+use Rattle.std.specs.Cmp.Lexicographic.{pointwise}
+use base.Stored.{Gv, gnil, gnum, gcons}
+use Rattle.cx_term.specs.Term.{Term}
+use Rattle.cx_term.specs.TermCode.{term_code}
 
-unfoldable pub same_scalar : Scalar → Scalar → Bool
-same_scalar scalars.Bool scalars.Bool = true
-same_scalar scalars.Int scalars.Int = true
-same_scalar scalars.Unsigned scalars.Unsigned = true
-same_scalar scalars.LongLong scalars.LongLong = true
-same_scalar scalars.ULongLong scalars.ULongLong = true
-same_scalar _ _ = false
+-- whether two trees of numbers are one
+unfoldable pub same_code : Gv → Gv → Bool
+same_code gnil gnil = true
+same_code (gnum m) (gnum n) = m == n
+same_code (gcons a b) (gcons c d) = same_code a c && same_code b d
+same_code _ _ = false
 
--- Two trees are the same where their tops are of one kind and say the same, and their parts are the same.
-unfoldable mutual
-  pub same_term : Term → Term → Bool
-  same_term (param i) (param j) = i == j
-  same_term (scalar s) (scalar r) = same_scalar s r
-  same_term void void = true
-  same_term (struct d) (struct e) = d.0 == e.0
-  same_term (inst d xs) (inst e ys) = (d.0 == e.0) && same_arguments xs ys
-  same_term (const a) (const b) = same_term a b
-  same_term (ref a) (ref b) = same_term a b
-  same_term (member a m) (member b n) = same_term a b && bytes_eq m n
-  same_term (decltype a) (decltype b) = same_term a b
-  same_term (val s m) (val r n) = same_scalar s r && int_eq m n
-  same_term (local i) (local j) = i == j
-  same_term (functions m i) (functions n j) = bytes_eq m n && (i == j)
-  same_term (form v xs) (form w ys) = same_word v w && same_arguments xs ys
-  same_term _ _ = false
+abbrev pub same_term : Term → Term → Bool
+same_term t u = same_code (term_code.code t) (term_code.code u)
 
-  pub same_arguments : Arguments → Arguments → Bool
-  same_arguments nothing nothing = true
-  same_arguments (argument a xs) (argument b ys) = same_term a b && same_arguments xs ys
-  same_arguments _ _ = false
+-- the same of lists of trees
+abbrev pub same_terms : List Term → List Term → Bool
+same_terms = pointwise same_term

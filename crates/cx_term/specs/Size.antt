@@ -1,8 +1,5 @@
 -- How large a tree is: its nodes, and the nodes on its longest path from the top, both counted as a tree, however much of it is shared.
-use Rattle.std.specs.Prelude.{ℕ, ◌+◌, max, Bool, ◌&&◌, nat_le, Result, Ok, Err, if◌then◌else◌}
-use Rattle.cx_base.specs.Refusal.{Refusal, Passed}
-use Rattle.cx_base.specs.declared.limit.Limit.TheVariants.{TermSize}
-use Rattle.cx_base.specs.declared.place.Place.{Place}
+use Rattle.std.specs.Prelude.{ℕ, ◌+◌, max, Bool, ◌&&◌, nat_le}
 use Rattle.cx_term.specs.Term.{Term, Arguments, inst, const, ref, member, decltype, form, nothing, argument}
 
 unfoldable mutual
@@ -36,7 +33,3 @@ unfoldable mutual
 -- at most 65,536 nodes, and no node with more than 511 above it
 abbrev pub is_small : Term → Bool
 is_small t = nat_le (nodes t) 65536 && nat_le (depth t) 512
-
--- a tree that is wanted at a place: itself, or the limit that it passes
-unfoldable pub admitted : Term → Place → Result Term Refusal
-admitted t at = if is_small t then Ok t else Err (Passed TermSize at)

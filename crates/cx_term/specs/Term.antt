@@ -1,6 +1,6 @@
 -- The trees that every definition of the language speaks of: types ([basic.types]), template arguments ([temp.arg]) and dependent expressions ([temp.dep]).
 -- They are plain: two of them that are written alike are one tree. Names are the bytes of their text.
-use Rattle.std.specs.Prelude.{ℕ, ℤ, List}
+use Rattle.std.specs.Prelude.{ℕ, ℤ, List, [], ◌∷◌}
 use Rattle.cx_base.specs.declared.numbers.DeclId.{DeclId}
 use Rattle.cx_base.specs.declared.value.Scalar.{Scalar}
 use Rattle.cx_term.specs.declared.word.Word.{Word}
@@ -33,3 +33,12 @@ mutual
   pub data Arguments : Type 0 where
     nothing : Arguments
     argument : Term → Arguments → Arguments
+
+-- the list of trees of these members, and the members of a list
+abbrev pub arguments : List Term → Arguments
+arguments [] = nothing
+arguments (t ∷ ts) = argument t (arguments ts)
+
+abbrev pub members : Arguments → List Term
+members nothing = []
+members (argument t xs) = t ∷ members xs

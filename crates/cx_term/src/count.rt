@@ -3,7 +3,7 @@
 ghost use Rattle.std.specs.Prelude.{◌≡◌, ◌+◌, ◌<◌, ◌≤◌, ◌↔◌, ◌⊎◌, min, max, IsTrue};
 
 /// How large a tree or a list of trees is.
-#[derive(Clone, Copy, Debug)]
+#[derive(Clone, Copy)]
 pub(crate) struct Count {
     // The nodes, counted as a tree up to one past the limit.
     pub nodes: u32,

@@ -15,10 +15,3 @@ pub use node::Node;
 pub use terms::Terms;
 pub use typed::{Cat, Typed};
 pub use word::Word;
-
-#[cfg(test)]
-mod scan;
-#[cfg(test)]
-mod scan_tests;
-#[cfg(test)]
-mod tests;

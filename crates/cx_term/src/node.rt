@@ -2,7 +2,7 @@ use crate::word::Word;
 use cx_base::{ArgsId, DeclId, Scalar, TermId};
 
 /// The top of a type, a template argument or a dependent expression: its parts are numbers of a table.
-#[derive(Clone, Copy, Debug, PartialEq, Eq, Hash)]
+#[derive(Clone, Copy, PartialEq, Eq, Hash)]
 pub enum Node<'a> {
     /// The template parameter at this position.
     Param(u32),

@@ -1,8 +1,13 @@
-ghost use Rattle.std.specs.Prelude.{◌≡◌, ◌≤◌, ◌↔◌, All, IfOk, IsTrue, OnOk, OnErr, Ok};
-ghost use Rattle.cx_base.specs.Refusal.{Gives};
+ghost use Rattle.std.specs.Prelude.{◌≡◌, ◌≤◌, ◌↔◌, All, Ok, Err, IfOk, IsErrOf, IsOk, IsTrue, OnOk, OnErr, map};
+ghost use Rattle.std.specs.Bool.{OnTrue, OnFalse};
+ghost use Rattle.cx_numbered.specs.Numbered.{IsNumberOf, is_among};
+ghost use Rattle.cx_base.specs.declared.limit.Limit.TheVariants.{TermSize};
+ghost use Rattle.cx_base.specs.declared.stop.Stop.TheVariants.{Limit as Limited, NoMemory};
 ghost use Rattle.cx_term.specs.Layout.{Counts};
-ghost use Rattle.cx_term.specs.Size.{nodes, depth, all_nodes, all_depth, admitted};
-ghost use Rattle.cx_term.specs.Table.{no_terms, IsTerm, IsList, HasParts, NumbersOnce, Extends, each, tree_at, list_at, tree_of, with_tree, with_list};
+ghost use Rattle.cx_term.specs.Same.{same_term, same_terms};
+ghost use Rattle.cx_term.specs.Size.{nodes, depth, all_nodes, all_depth, is_small};
+ghost use Rattle.cx_term.specs.Term.{arguments};
+ghost use Rattle.cx_term.specs.Table.{no_terms, IsTerm, IsList, HasParts, Extends, tree_at, list_at, tree_of, with_tree, with_list};
 
 use crate::count::Count;
 use crate::node::Node;
@@ -34,9 +39,9 @@ impl<'a> Model for Terms<'a> {
 }
 
 impl<'a> Terms<'a> {
-    /// A table with no number. Refuses for want of memory alone.
+    /// A table with no number. Takes no memory.
     pub fn new(alloc: Global) -> Result<Terms<'a>, Stop>
-        ensures { Gives (λ t. t) result (Ok no_terms) }
+        ensures { result ≡ Ok no_terms }
     {
         Ok(Terms {
             nodes: IndexMap::new(alloc),
@@ -49,6 +54,8 @@ impl<'a> Terms<'a> {
         requires { IsTerm self.now t }
         ensures parts { HasParts self.now result.0 }
         ensures tree { tree_of self.now result.0 ≡ tree_at self.now t }
+        ensures number { IsNumberOf self.now.trees t.0 (tree_at self.now t) }
+        ensures small { IsTrue (is_small (tree_at self.now t)) }
         ensures counts { Counts result.1 (nodes (tree_at self.now t)) (depth (tree_at self.now t)) }
         ensures shallow { depth (tree_at self.now t) ≤ 512 }
     {
@@ -60,16 +67,18 @@ impl<'a> Terms<'a> {
     fn stored_list(&self, a: ArgsId) -> (&[TermId], Count)
         requires { IsList self.now a }
         ensures terms { All (IsTerm self.now) result.0.now }
-        ensures list { each (tree_at self.now) result.0.now ≡ list_at self.now a }
-        ensures counts { Counts result.1 (all_nodes (list_at self.now a)) (all_depth (list_at self.now a)) }
-        ensures shallow { all_depth (list_at self.now a) ≤ 512 }
+        ensures list { map (tree_at self.now) result.0.now ≡ list_at self.now a }
+        ensures number { IsNumberOf self.now.lists a.0 (list_at self.now a) }
+        ensures small { All (λ t. IsTrue (is_small (tree_at self.now t))) result.0.now }
+        ensures counts { Counts result.1 (all_nodes (arguments (list_at self.now a))) (all_depth (arguments (list_at self.now a))) }
+        ensures shallow { all_depth (arguments (list_at self.now a)) ≤ 512 }
     {
         let (list, count) = self.lists.get_index(a.0).unwrap();
         (list.as_slice(), *count)
     }
 
     // How large the tree of a node is.
-    #[tactic(auto, unfolding(crate::specs::Table::HasParts, crate::specs::Table::spelled, crate::specs::Size::nodes, crate::specs::Size::depth), using(crate::proofs::Counting::counting))]
+    #[tactic(auto, unfolding(crate::specs::Size::nodes, crate::specs::Size::depth), using(crate::proofs::Counting::counting))]
     fn count(&self, node: Node<'a>) -> Count
         requires { HasParts self.now node }
         ensures { Counts result (nodes (tree_of self.now node.entry)) (depth (tree_of self.now node.entry)) }
@@ -94,8 +103,8 @@ impl<'a> Terms<'a> {
     // How large a list of trees is.
     fn count_all(&self, args: &[TermId]) -> Count
         requires { All (IsTerm self.now) args.now }
-        ensures counts { Counts result (all_nodes (each (tree_at self.now) args.now)) (all_depth (each (tree_at self.now) args.now)) }
-        ensures shallow { all_depth (each (tree_at self.now) args.now) ≤ 512 }
+        ensures counts { Counts result (all_nodes (arguments (map (tree_at self.now) args.now))) (all_depth (arguments (map (tree_at self.now) args.now))) }
+        ensures shallow { all_depth (arguments (map (tree_at self.now) args.now)) ≤ 512 }
     {
         let mut total = Count::none();
         for t in args {
@@ -107,17 +116,17 @@ impl<'a> Terms<'a> {
     /// The number of the tree of this node, whose numbers are of this table: the one that it has, or a new one.
     ///
     /// Refuses with Limit TermSize at the place exactly where the tree has more than 65,536 nodes or a node
-    /// with more than 511 above it, and for want of memory; the table is then as before.
+    /// with more than 511 above it. Refuses besides for want of memory alone, and where the tree is there not at
+    /// all. The table is as before where it refuses.
     pub fn intern(&mut self, node: Node<'a>, at: Place) -> Result<TermId, Stop>
         requires { HasParts self.old node }
-        // The number stands for the tree of the node, unless that is too large.
-        ensures tree { Gives (tree_at self.new) result (admitted (tree_of self.old node.entry) at) }
-        ensures number { IfOk result (IsTerm self.new) }
-        // The tree is added where it was not there, and nothing else changes.
-        ensures added { OnOk result (self.new ≡ with_tree self.old (tree_of self.old node.entry)) }
-        ensures err { OnErr result (self.new ≡ self.old) }
+        ensures number { IfOk result (λ t. IsNumberOf self.new.trees t.0 (tree_of self.old node.entry)) }
+        ensures ok { OnOk result (self.new ≡ with_tree self.old (tree_of self.old node.entry)) }
         ensures extends { Extends self.old self.new }
-        ensures once { NumbersOnce self.new }
+        ensures err { OnErr result (self.new ≡ self.old) }
+        ensures limit { OnFalse (is_small (tree_of self.old node.entry)) (result ≡ Err (Limited TermSize at)) }
+        ensures only_memory { OnTrue (is_small (tree_of self.old node.entry)) (OnErr result (IsErrOf result NoMemory)) }
+        ensures there { OnTrue (is_among same_term self.old.trees (tree_of self.old node.entry)) (IsOk result) }
     {
         if let Some(number) = self.nodes.get_index_of(&node) {
             return Ok(TermId(number));
@@ -132,17 +141,17 @@ impl<'a> Terms<'a> {
     }
 
     /// The number of the list of these trees, by numbers of this table: the one that it has, or a new one.
-    /// Refuses for want of memory alone; the table is then as before.
+    ///
+    /// Refuses for want of memory alone, and where the list is there not at all. The table is as before where it
+    /// refuses.
     pub fn intern_args(&mut self, args: &[TermId]) -> Result<ArgsId, Stop>
         requires { All (IsTerm self.old) args.now }
-        // The number stands for the list of the trees.
-        ensures list { Gives (list_at self.new) result (Ok (each (tree_at self.old) args.now)) }
-        ensures number { IfOk result (IsList self.new) }
-        // The list is added where it was not there, and nothing else changes.
-        ensures added { OnOk result (self.new ≡ with_list self.old (each (tree_at self.old) args.now)) }
-        ensures err { OnErr result (self.new ≡ self.old) }
+        ensures number { IfOk result (λ a. IsNumberOf self.new.lists a.0 (map (tree_at self.old) args.now)) }
+        ensures ok { OnOk result (self.new ≡ with_list self.old (map (tree_at self.old) args.now)) }
         ensures extends { Extends self.old self.new }
-        ensures once { NumbersOnce self.new }
+        ensures err { OnErr result (self.new ≡ self.old) }
+        ensures only_memory { OnErr result (IsErrOf result NoMemory) }
+        ensures there { OnTrue (is_among same_terms self.old.lists (map (tree_at self.old) args.now)) (IsOk result) }
     {
         if let Some(number) = self.lists.get_index_of(args) {
             return Ok(ArgsId(number));
@@ -154,20 +163,27 @@ impl<'a> Terms<'a> {
         Ok(ArgsId(number))
     }
 
-    /// The top of the tree that a number of this table stands for. Takes no memory.
+    /// The top of the tree that a number of this table stands for. The tree has this number alone, and is within
+    /// the limits. Takes no memory.
     pub fn node(&self, t: TermId) -> Node<'a>
         requires { IsTerm self.now t }
         ensures parts { HasParts self.now result }
         ensures tree { tree_of self.now result ≡ tree_at self.now t }
+        ensures number { IsNumberOf self.now.trees t.0 (tree_at self.now t) }
+        ensures small { IsTrue (is_small (tree_at self.now t)) }
     {
         self.stored(t).0
     }
 
-    /// The members of the list that a number of this table stands for. Takes no memory.
+    /// The members of the list that a number of this table stands for. The list has this number alone, and each
+    /// member is within the limits and no larger than the list. Takes no memory.
     pub fn args(&self, a: ArgsId) -> &[TermId]
         requires { IsList self.now a }
         ensures terms { All (IsTerm self.now) result.now }
-        ensures list { each (tree_at self.now) result.now ≡ list_at self.now a }
+        ensures list { map (tree_at self.now) result.now ≡ list_at self.now a }
+        ensures number { IsNumberOf self.now.lists a.0 (list_at self.now a) }
+        ensures small { All (λ t. IsTrue (is_small (tree_at self.now t))) result.now }
+        ensures smaller { All (λ t. nodes (tree_at self.now t) ≤ all_nodes (arguments (list_at self.now a))) result.now }
     {
         self.stored_list(a).0
     }
@@ -176,29 +192,9 @@ impl<'a> Terms<'a> {
     pub fn same(&self, a: TermId, b: TermId) -> bool
         requires left { IsTerm self.now a }
         requires right { IsTerm self.now b }
-        ensures trees { IsTrue result ↔ (tree_at self.now a ≡ tree_at self.now b) }
-        ensures once { NumbersOnce self.now }
+        ensures { IsTrue result ↔ (tree_at self.now a ≡ tree_at self.now b) }
     {
         let _ = &self.nodes;
         a == b
-    }
-}
-
-#[cfg(test)]
-impl<'a> Terms<'a> {
-    // Whether this is a number of the table.
-    #[tactic(auto, using(crate::proofs::Fields::opened, crate::proofs::Fields::how_many))]
-    pub(crate) fn has(&self, t: TermId) -> bool
-        ensures { IsTrue result ↔ IsTerm self.now t }
-    {
-        t.0 < self.nodes.len()
-    }
-
-    // Whether this is a number of a list of the table.
-    #[tactic(auto, using(crate::proofs::Fields::opened, crate::proofs::Fields::how_many_lists))]
-    pub(crate) fn has_list(&self, a: ArgsId) -> bool
-        ensures { IsTrue result ↔ IsList self.now a }
-    {
-        a.0 < self.lists.len()
     }
 }

@@ -1,7 +1,7 @@
 use cx_base::TermId;
 
 /// The category of an expression's value ([basic.lval]).
-#[derive(Clone, Copy, Debug, PartialEq, Eq)]
+#[derive(Clone, Copy, PartialEq, Eq)]
 pub enum Cat {
     Lvalue,
     Xvalue,
@@ -9,7 +9,7 @@ pub enum Cat {
 }
 
 /// The type and the category of an expression.
-#[derive(Clone, Copy, Debug, PartialEq, Eq)]
+#[derive(Clone, Copy, PartialEq, Eq)]
 pub struct Typed {
     pub ty: TermId,
     pub cat: Cat,

@@ -19,6 +19,12 @@ returns-clause-terms c = rw c.as_slice.ensures.value (found c).terms
 pub returns-clause-list : goal.returns-clause-list
 returns-clause-list c = rw c.as_slice.ensures.value (found c).list
 
+pub returns-clause-number : goal.returns-clause-number
+returns-clause-number c = (found c).number
+
+pub returns-clause-small : goal.returns-clause-small
+returns-clause-small c = rw c.as_slice.ensures.value (found c).small
+
 pub returns-clause-counts : goal.returns-clause-counts
 returns-clause-counts c = (found c).counts
 
