@@ -2,7 +2,7 @@
 use Rattle.std.specs.Prelude.{◌≡◌, ℕ, ℤ, List, refl}
 use Rattle.std.specs.Coded.{Coded, coded_ℕ, coded_ℤ, coded_list}
 use base.Stored.{Gv, gnil, gnum, gcons, num}
-use Rattle.std.proofs.Common.{ap}
+use Rattle.std.proofs.Common.{ap, sym, ◌∙◌, true, false, ◌==◌, eq-eqb, true≢false}
 use Rattle.cx_base.specs.declared.value.Scalar.{Scalar}
 use Rattle.cx_base.specs.contracts.value.Scalar.{the_row as scalar_row}
 use Rattle.cx_term.specs.declared.word.Word.{Word}
@@ -45,6 +45,13 @@ mutual
   arguments_gv nothing = gnil
   arguments_gv (argument t xs) = gcons (term_gv t) (arguments_gv xs)
 
+-- numbers that the test tells apart are no number
+apart : (m n : ℕ) → m ≡ n → (m == n) ≡ false → ⊥
+apart m n e f = true≢false (sym (eq-eqb m n e) ∙ f)
+
+cons_apart : {a b : Gv} → gnil ≡ gcons a b → ⊥
+cons_apart e = cc
+
 mutual
   unfolding term_gv
 
@@ -62,12 +69,13 @@ mutual
   term_inj (local i) (local i') e = ap (λ g. local (num (tail g))) e
   term_inj (functions m n) (functions m' n') e = let h = (coded_list coded_ℕ).inj m m' (ap (λ g. head (tail g)) e) in λ i. functions (h i) (num (tail (tail (e i))))
   term_inj (form w xs) (form w' xs') e = let f = word_code.inj w w' (ap (λ g. head (tail g)) e) in let h = arguments_inj xs xs' (ap (λ g. tail (tail g)) e) in λ i. form (f i) (h i)
-  term_inj _ _ e = absurd cc
+  term_inj t u e = absurd (apart _ _ (ap (λ g. num (head g)) e) refl)
 
   pub arguments_inj : (xs ys : Arguments) → arguments_gv xs ≡ arguments_gv ys → xs ≡ ys
   arguments_inj nothing nothing e = refl
   arguments_inj (argument t xs) (argument u ys) e = let f = term_inj t u (ap head e) in let h = arguments_inj xs ys (ap tail e) in λ i. argument (f i) (h i)
-  arguments_inj _ _ e = absurd cc
+  arguments_inj nothing (argument u ys) e = absurd (cons_apart e)
+  arguments_inj (argument t xs) nothing e = absurd (cons_apart (sym e))
 
 abbrev pub term_code : Coded Term
 term_code = record { code = term_gv; inj = term_inj }
