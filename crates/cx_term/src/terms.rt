@@ -38,6 +38,14 @@ impl<'a> Model for Terms<'a> {
     ghost invariant = { λ s. IsTable s.nodes.entries s.lists.entries };
 }
 
+// These numbers in a list of their own.
+fn copied(alloc: Global, args: &[TermId]) -> Result<Vec<TermId>, Stop>
+    ensures items { IfOk result (λ v. v.items ≡ args.now) }
+    ensures only_memory { OnErr result (IsErrOf result NoMemory) }
+{
+    Ok(Vec::from_slice(alloc, args)?)
+}
+
 impl<'a> Terms<'a> {
     /// A table with no number. Takes no memory.
     pub fn new(alloc: Global) -> Result<Terms<'a>, Stop>
@@ -157,7 +165,7 @@ impl<'a> Terms<'a> {
             return Ok(ArgsId(number));
         }
         let count = self.count_all(args);
-        let list = Vec::from_slice(*self.lists.allocator(), args)?;
+        let list = copied(*self.lists.allocator(), args)?;
         let number = self.lists.len();
         self.lists.insert(list, count)?;
         Ok(ArgsId(number))
