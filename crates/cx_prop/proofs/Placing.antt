@@ -18,9 +18,9 @@ use Rattle.cx_prop.specs.contracts.shape.ShapePartialEq.TheImpl as derived
 use Rattle.cx_prop.specs.contracts.atom_key.AtomKeyPartialEq.TheImpl as derived_keys
 use Rattle.cx_prop.specs.declared.atom_key.AtomKey.{AtomKey}
 use Rattle.indexmap.specs.IndexSet.{insert_key}
-use Rattle.cx_prop.specs.Formula.{Atomic}
+use Rattle.cx_prop.specs.Interned.{Interned}
 use Rattle.cx_prop.specs.Kept.{Places, atomic_of}
-use Rattle.cx_prop.proofs.Same.{same_atomic-Decides}
+use Rattle.cx_prop.proofs.Same.{same_interned-Decides}
 use Rattle.cx_prop.proofs.Lists.{either, or_left, or_right, get_or_is, get_is, get_below}
 
 abbrev pub shape_eq : Shape → Shape → Bool
@@ -80,7 +80,7 @@ abbrev pub key_eq : AtomKey → AtomKey → Bool
 key_eq = (derived_keys.eq-value).it
 
 -- what a set of atoms is after one is inserted, at the number n
-pub record Inserts (old new : List Atomic) (a : Atomic) (n : ℕ) : Type 0 where
+pub record Inserts (old new : List Interned) (a : Interned) (n : ℕ) : Type 0 where
   pub at : slice_get new n ≡ Some a
   pub new_is : (new ≡ old) ⊎ (((j : ℕ) → slice_get old j ≡ Some a → ⊥) × (new ≡ old ++ a ∷ []))
 
@@ -99,14 +99,14 @@ any_found : (keys : List AtomKey) (k : AtomKey) (j : ℕ) → slice_get (map ato
 any_found [] k j h = absurd cc
 any_found (l ∷ keys) k zero h =
     let same : atomic_of k ≡ atomic_of l = cc in
-    or_left (key_eq k l) (list_any (key_eq k) keys) ((same_atomic-Decides (atomic_of k) (atomic_of l)).1 same)
+    or_left (key_eq k l) (list_any (key_eq k) keys) ((same_interned-Decides (atomic_of k) (atomic_of l)).1 same)
 any_found (l ∷ keys) k (suc j) h = or_right (key_eq k l) (list_any (key_eq k) keys) (any_found keys k j h)
 
 pub atoms_inserted : (old new : List AtomKey) (k : AtomKey) (n : ℕ) → new ≡ insert_key key_eq old k → (l : AtomKey) × (slice_get new n ≡ Some l) × (key_eq k l ≡ true)
     → Inserts (map atomic_of old) (map atomic_of new) (atomic_of k) n
 atoms_inserted old new k n made stored =
     record {
-      at = slice_get-map atomic_of new n stored.0 stored.1 ∙ ap Some (sym ((same_atomic-Decides (atomic_of k) (atomic_of stored.0)).0 stored.2));
+      at = slice_get-map atomic_of new n stored.0 stored.1 ∙ ap Some (sym ((same_interned-Decides (atomic_of k) (atomic_of stored.0)).0 stored.2));
       new_is = elim (either (list_any (key_eq k) old)) [
         | inl there ↦ inl (ap (map atomic_of) (made ∙ ap (λ (b : Bool). cond b old (old ++ k ∷ [])) there))
         | inr absent ↦ inr (λ j h. true≢false (sym (any_found old k j h) ∙ absent), ap (map atomic_of) (made ∙ ap (λ (b : Bool). cond b old (old ++ k ∷ [])) absent) ∙ map-push atomic_of old k)

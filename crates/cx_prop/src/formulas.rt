@@ -23,10 +23,11 @@ pub struct Formulas {
 impl Model for Formulas {
     ghost use Rattle.std.specs.Prelude.{List, map};
     ghost use Rattle.indexmap.specs.IndexMap.{keys};
-    ghost use Rattle.cx_prop.specs.Formula.{Formula, formula_code};
+    ghost use Rattle.cx_prop.specs.Formula.{Formula};
+    ghost use Rattle.cx_prop.specs.Interned.{Interned, formula_code};
     ghost use Rattle.std.specs.Coded.{coded_list};
 
-    ghost Value = { List Formula };
+    ghost Value = { List (Formula Interned) };
 
     ghost coded = { coded_list formula_code };
 
@@ -57,6 +58,7 @@ fn placed(
 
 impl Formulas {
     ghost use Rattle.cx_prop.specs.Formula.{Atom, And, Or};
+    ghost use Rattle.cx_prop.specs.Interned.{same_interned};
     ghost use Rattle.cx_prop.specs.Truth.{truth as truth_of, assigned};
     ghost use Rattle.cx_prop.specs.Counting.{counts_of};
     ghost use Rattle.cx_prop.specs.Table.{Has, HasEachOnce, Grows, IsNumberOf, IsTop, formula_at, with_formula, atoms_of};
@@ -151,7 +153,7 @@ impl Formulas {
     pub fn holds(&self, f: FormulaId, truth: &[bool]) -> bool
         requires formula { Has self.now f }
         requires atoms { length truth.now ≡ length (atoms_of self.now) }
-        ensures { result ≡ truth_of (assigned (atoms_of self.now) truth.now) (formula_at self.now f) }
+        ensures { result ≡ truth_of (assigned same_interned (atoms_of self.now) truth.now) (formula_at self.now f) }
     {
         match self.part(f) {
             Part::Atom(number, _, _) => truth[number],

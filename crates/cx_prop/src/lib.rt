@@ -12,9 +12,8 @@ mod valuation;
 
 pub use counts::Counts;
 pub use formulas::Formulas;
-pub use laws::subsumption_is_entailment;
+pub use laws::{
+    counts_pass_alike, equality_is_decided, renaming_keeps_formulas, subsumption_is_entailment,
+};
 pub use part::Part;
 pub use valuation::Valuation;
-
-#[cfg(test)]
-mod tests;

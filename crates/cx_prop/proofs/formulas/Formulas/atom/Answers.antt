@@ -3,7 +3,7 @@ use Rattle.std.specs.Prelude.{IfOk}
 use Rattle.cx_prop.specs.declared.counts.Counts.{Counts}
 use Rattle.cx_prop.specs.declared.shape.Shape.{Shape}
 use Rattle.cx_prop.specs.declared.shape.Shape.TheVariants as shape
-use Rattle.cx_prop.specs.Formula.{Atomic}
+use Rattle.cx_prop.specs.Interned.{Interned}
 use Rattle.cx_prop.specs.Kept.{atomic_of, Keeps, Places}
 use Rattle.cx_prop.proofs.Placing.{atoms_inserted}
 use Rattle.cx_prop.proofs.Tables.{kept_atom, number_atom, is_atom, grows_atom, one_each, one_of_each}
@@ -15,7 +15,7 @@ invariant_of-self-2 c =
     let xs = map atomic_of t.atoms.keys in
     let es = t.shapes.entries in
     let new = c.insert_full.new.self.keys in
-    let a : Atomic = record { node = c.args.node; mapping = c.in_ok-map.map.items } in
+    let a : Interned = record { node = c.args.node; mapping = c.in_ok-map.map.items } in
     let k = subst (Keeps xs es) c.self.view_is c.self.invariant in
     let inserts = atoms_inserted t.atoms.keys new _ c.in_ok-number.number c.in_ok-number.ensures.keys c.in_ok-number.ensures.stored in
     let ok = subst (λ (ds : List (Shape × Counts)). IfOk c.placed.result (λ f. Places ds c.placed.new.shapes.entries (shape.Atom c.in_ok-number.number) one_of_each f.0)) c.in_ok-reserve.ensures.entries c.placed.ensures.ok in
@@ -28,7 +28,7 @@ returns-clause-number c =
     let xs = map atomic_of t.atoms.keys in
     let es = t.shapes.entries in
     let new = c.insert_full.new.self.keys in
-    let a : Atomic = record { node = c.args.node; mapping = c.in_ok-map.map.items } in
+    let a : Interned = record { node = c.args.node; mapping = c.in_ok-map.map.items } in
     let k = subst (Keeps xs es) c.self.view_is c.self.invariant in
     let inserts = atoms_inserted t.atoms.keys new _ c.in_ok-number.number c.in_ok-number.ensures.keys c.in_ok-number.ensures.stored in
     let ok = subst (λ (ds : List (Shape × Counts)). IfOk c.placed.result (λ f. Places ds c.placed.new.shapes.entries (shape.Atom c.in_ok-number.number) one_of_each f.0)) c.in_ok-reserve.ensures.entries c.placed.ensures.ok in
@@ -41,7 +41,7 @@ returns-clause-ok c =
     let xs = map atomic_of t.atoms.keys in
     let es = t.shapes.entries in
     let new = c.insert_full.new.self.keys in
-    let a : Atomic = record { node = c.args.node; mapping = c.in_ok-map.map.items } in
+    let a : Interned = record { node = c.args.node; mapping = c.in_ok-map.map.items } in
     let k = subst (Keeps xs es) c.self.view_is c.self.invariant in
     let inserts = atoms_inserted t.atoms.keys new _ c.in_ok-number.number c.in_ok-number.ensures.keys c.in_ok-number.ensures.stored in
     let ok = subst (λ (ds : List (Shape × Counts)). IfOk c.placed.result (λ f. Places ds c.placed.new.shapes.entries (shape.Atom c.in_ok-number.number) one_of_each f.0)) c.in_ok-reserve.ensures.entries c.placed.ensures.ok in
@@ -54,7 +54,7 @@ returns-clause-grows c =
     let xs = map atomic_of t.atoms.keys in
     let es = t.shapes.entries in
     let new = c.insert_full.new.self.keys in
-    let a : Atomic = record { node = c.args.node; mapping = c.in_ok-map.map.items } in
+    let a : Interned = record { node = c.args.node; mapping = c.in_ok-map.map.items } in
     let k = subst (Keeps xs es) c.self.view_is c.self.invariant in
     let inserts = atoms_inserted t.atoms.keys new _ c.in_ok-number.number c.in_ok-number.ensures.keys c.in_ok-number.ensures.stored in
     let ok = subst (λ (ds : List (Shape × Counts)). IfOk c.placed.result (λ f. Places ds c.placed.new.shapes.entries (shape.Atom c.in_ok-number.number) one_of_each f.0)) c.in_ok-reserve.ensures.entries c.placed.ensures.ok in
