@@ -6,7 +6,8 @@ use Rattle.cx_prop.specs.Formula.{Formula, Atom, And, Or, IsEquality}
 use Rattle.cx_prop.specs.Truth.{Valuation, truth, among, Entails}
 use Rattle.cx_prop.specs.Clauses.{Clause, pairwise, disjunctive_clauses, conjunctive_clauses, shares, subsumes}
 use Rattle.cx_prop.specs.Laws.{LawOfClauses}
-use Rattle.cx_prop.proofs.Lists.{or_cases, or_right, or_left, and_left, and_right, and_both}
+use Rattle.cx_numbered.proofs.Numbered.{or_cases, or_right, or_left}
+use Rattle.cx_prop.proofs.Tests.{and_left, and_right, and_both}
 
 alone_any : (b : Bool) → b ≡ ((b && true) || false)
 alone_any true = refl

@@ -8,14 +8,9 @@ use Rattle.cx_prop.specs.Formula.{Formula, Atom, And, Or, IsEquality, AtomsAre, 
 use Rattle.cx_prop.specs.Truth.{Valuation, truth, Entails}
 use Rattle.cx_prop.specs.Counting.{disjunctive, conjunctive, atoms_in, saturated, counts_of}
 use Rattle.cx_prop.specs.Laws.{LawOfRenaming}
-use Rattle.cx_prop.proofs.Lists.{either, or_cases, or_left, or_right, and_both, and_left, and_right}
+use Rattle.cx_numbered.proofs.Numbered.{or_cases, or_left, or_right}
+use Rattle.cx_prop.proofs.Tests.{and_both, and_left, and_right, both_ways}
 use Rattle.cx_prop.proofs.Same.{same_formula-Decides}
-
-both_ways : (a b : Bool) → (a ≡ true → b ≡ true) → (b ≡ true → a ≡ true) → a ≡ b
-both_ways true true g h = refl
-both_ways true false g h = sym (g refl)
-both_ways false true g h = h refl
-both_ways false false g h = refl
 
 module _ {A B : Type 0} (f : A → B) where
   pub truth-renamed : (v : Valuation B) (p : Formula A) → truth v (renamed f p) ≡ truth (λ a. v (f a)) p

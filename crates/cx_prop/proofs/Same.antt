@@ -11,7 +11,7 @@ use Rattle.cx_prop.specs.Interned.{Interned, same_term, same_interned}
 use Rattle.cx_prop.specs.Laws.{LawOfEquality}
 
 module _ {T : Type 0} (same : T → T → Bool) (decides : IsEquality same) where
-  same_pair-Decides : (s t : ℕ × T) → Decides (same_pair same s t) (s ≡ t)
+  pub same_pair-Decides : (s t : ℕ × T) → Decides (same_pair same s t) (s ≡ t)
   same_pair-Decides s t =
       Decides-like (same_pair same s t) (λ (h : (s.0 ≡ t.0) × (s.1 ≡ t.1)) i. (h.0 i, h.1 i)) (λ e. (ap (λ (u : ℕ × T). u.0) e, ap (λ (u : ℕ × T). u.1) e))
       (Decides-and (s.0 == t.0) (same s.1 t.1) (unsigned_Decides s.0 t.0) (decides s.1 t.1))
@@ -45,7 +45,7 @@ module _ {A : Type 0} (same : A → A → Bool) (decides : IsEquality same) wher
       Decides-like (same_formula same p r && same_formula same q s) (λ (h : (p ≡ r) × (q ≡ s)). cc) (λ e. (cc, cc))
       (Decides-and (same_formula same p r) (same_formula same q s) (same_formula-Decides p r) (same_formula-Decides q s))
 
-same_term-Decides : IsEquality same_term
+pub same_term-Decides : IsEquality same_term
 same_term-Decides s t = Decides-like (same_term s t) (λ (h : s.0 ≡ t.0) i. record { 0 = h i }) (λ e. ap (λ (u : TermId). u.0) e) (unsigned_Decides s.0 t.0)
 
 -- the tests of a table's atoms and of its formulas

@@ -6,4 +6,3 @@ pub mod Laws
 pub mod Interned
 pub mod Table
 pub mod Kept
-pub mod Hashing

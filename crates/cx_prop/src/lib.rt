@@ -2,11 +2,11 @@
 //! and their counts; and the law that subsumption by clauses is entailment.
 #![tactic(auto)]
 
-mod atom_key;
 mod counts;
 mod formulas;
 mod laws;
 mod part;
+mod placing;
 mod shape;
 mod valuation;
 
