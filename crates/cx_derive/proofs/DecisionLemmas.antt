@@ -17,7 +17,7 @@ use Rattle.cx_derive.proofs.Soundness.{against_holds}
 use Rattle.cx_derive.proofs.Leaves.{closed_holds, open_fails, leaf_atoms}
 use Rattle.cx_derive.proofs.Order.{canonical_right, canonical_ends}
 use Rattle.cx_prop.specs.Interned.{Interned, same_interned}
-use Rattle.cx_prop.proofs.Same.{same_interned-Decides}
+use Rattle.cx_prop.proofs.Lemmas.{same_interned-Decides}
 
 fails_both : (a b : Bool) → (not (a && true) || (b || false)) ≡ false → (a ≡ true) × (b ≡ false)
 fails_both true true h = absurd (true≢false h)

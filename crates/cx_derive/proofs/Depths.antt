@@ -3,7 +3,7 @@ use Rattle.std.proofs.Common.{◌≡◌, ℕ, zero, suc, ◌+◌, ◌<◌, ◌�
 use Rattle.std.specs.List.{flat_map}
 use Rattle.std.specs.Option.{option_or}
 use Rattle.cx_prop.specs.Formula.{Formula, Atom, And, Or, same_formula}
-use Rattle.cx_prop.proofs.Lists.{either}
+use Rattle.cx_numbered.proofs.Numbered.{either}
 use Rattle.cx_derive.specs.declared.rule.SequentRule.{SequentRule}
 use Rattle.cx_derive.specs.declared.rule.SequentRule.TheVariants as rule
 use Rattle.cx_derive.specs.Lists.{is_among, with_new, with_all}

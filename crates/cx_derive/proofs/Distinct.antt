@@ -6,8 +6,8 @@ use Rattle.std.proofs.lemmas.Bool.Decides.{Decides-like, Decides-and}
 use Rattle.std.proofs.lemmas.Slice.Eq.{slice_eq-Decides}
 use Rattle.std.proofs.lemmas.List.Folds.{list_any-append}
 use Rattle.cx_prop.specs.Formula.{Formula, IsEquality}
-use Rattle.cx_prop.proofs.Lists.{either, or_cases, or_left, or_right}
-use Rattle.cx_prop.proofs.Same.{same_formula-Decides}
+use Rattle.cx_numbered.proofs.Numbered.{either, or_cases, or_left, or_right}
+use Rattle.cx_prop.proofs.Lemmas.{same_formula-Decides}
 use Rattle.cx_derive.specs.Lists.{is_among, with_new, with_all}
 use Rattle.cx_derive.specs.Sequents.{Sequent, same_formulas, same_sequent}
 

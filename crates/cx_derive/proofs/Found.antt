@@ -10,9 +10,9 @@ use Rattle.std.proofs.lemmas.List.{map-append}
 use Rattle.std.proofs.lemmas.List.Folds.{list_any-append}
 use Rattle.cx_base.specs.declared.numbers.FormulaId.{FormulaId}
 use Rattle.cx_prop.specs.Formula.{Formula}
-use Rattle.cx_prop.specs.Table.{HasEachOnce}
-use Rattle.cx_prop.proofs.Lists.{either, or_cases, or_left, or_right, get_push_cases}
-use Rattle.cx_prop.proofs.Same.{same_stored-Decides}
+use Rattle.cx_numbered.specs.Numbered.{HasEachOnce}
+use Rattle.cx_numbered.proofs.Numbered.{either, or_cases, or_left, or_right, get_push_cases}
+use Rattle.cx_prop.proofs.Lemmas.{same_stored-Decides}
 use Rattle.cx_derive.specs.declared.goal.Goal.{Goal}
 use Rattle.cx_derive.specs.Lists.{is_among, with_new, with_all}
 use Rattle.cx_derive.specs.Sequents.{Sequent, same_formulas, same_sequent}
@@ -23,7 +23,7 @@ use Rattle.indexmap.specs.IndexSet.{insert_key}
 use Rattle.cx_derive.proofs.Numbers.{same_number_is, head, tail}
 use Rattle.cx_derive.proofs.Depths.{leaf_by_rule, below_by_rule}
 use Rattle.cx_prop.specs.Interned.{Interned, same_interned}
-use Rattle.cx_prop.proofs.Same.{same_interned-Decides}
+use Rattle.cx_prop.proofs.Lemmas.{same_interned-Decides}
 use Rattle.cx_derive.proofs.Distinct.{Among, among_append_cases, among_one_is, among_new, among_new_itself, among_new_cases}
 
 -- ---- goals and their sequents

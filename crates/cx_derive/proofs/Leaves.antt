@@ -5,8 +5,9 @@ use Rattle.std.specs.Option.{option_or}
 use Rattle.cx_prop.specs.Formula.{Formula, Atom, And, Or, IsEquality, same_formula}
 use Rattle.cx_prop.specs.Truth.{Valuation, truth, among}
 use Rattle.cx_prop.specs.Table.{atoms_of}
-use Rattle.cx_prop.proofs.Lists.{either, or_cases, or_left, or_right, and_both}
-use Rattle.cx_prop.proofs.Same.{same_formula-Decides}
+use Rattle.cx_numbered.proofs.Numbered.{either, or_cases, or_left, or_right}
+use Rattle.cx_prop.proofs.Lemmas.{and_both}
+use Rattle.cx_prop.proofs.Lemmas.{same_formula-Decides}
 use Rattle.cx_derive.specs.declared.rule.SequentRule.TheVariants as rule
 use Rattle.cx_derive.specs.Answers.{AreAtoms}
 use Rattle.cx_derive.specs.Lists.{is_among}

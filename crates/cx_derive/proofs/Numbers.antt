@@ -8,9 +8,10 @@ use Rattle.std.proofs.lemmas.List.{map-append}
 use Rattle.std.proofs.lemmas.Bool.Decides.{same_from_decides, Decides-like}
 use Rattle.cx_base.specs.declared.numbers.FormulaId.{FormulaId}
 use Rattle.cx_prop.specs.Formula.{Formula, Atom, same_formula}
-use Rattle.cx_prop.specs.Table.{Has, HasEachOnce, formula_at}
-use Rattle.cx_prop.proofs.Lists.{either, get_is}
-use Rattle.cx_prop.proofs.Same.{same_stored-Decides}
+use Rattle.cx_numbered.specs.Numbered.{HasEachOnce}
+use Rattle.cx_prop.specs.Table.{Has, formula_at}
+use Rattle.cx_numbered.proofs.Numbered.{once_get, either, get_is}
+use Rattle.cx_prop.proofs.Lemmas.{same_stored-Decides}
 use Rattle.cx_derive.specs.declared.goal.Goal.{Goal}
 use Rattle.cx_derive.specs.declared.leftmost.Split.{Split}
 use Rattle.cx_derive.specs.declared.leftmost.Split.TheVariants as split
@@ -30,7 +31,7 @@ no_formula = Atom (record { node = record { 0 = 0 }; mapping = [] })
 
 module _ (table : List (Formula Interned)) (once : HasEachOnce table) where
   pub number_is : (f g : FormulaId) → Has table f → Has table g → formula_at table f ≡ formula_at table g → f.0 ≡ g.0
-  number_is f g hf hg e = once f.0 g.0 (formula_at table g) (get_is table f.0 no_formula hf ∙ ap Some e) (get_is table g.0 no_formula hg)
+  number_is f g hf hg e = once_get table once f.0 g.0 (formula_at table g) (get_is table f.0 no_formula hf ∙ ap Some e) (get_is table g.0 no_formula hg)
 
   pub same_number_is : (f g : FormulaId) → Has table f → Has table g → same_number f g ≡ same_formula same_interned (formula_at table f) (formula_at table g)
   same_number_is f g hf hg =

@@ -4,7 +4,7 @@ use Rattle.std.specs.Prelude.{slice_get}
 use Rattle.std.specs.List.{flat_map}
 use Rattle.std.proofs.lemmas.List.{map-append, take_all}
 use Rattle.cx_prop.specs.Formula.{Formula, IsEquality}
-use Rattle.cx_prop.proofs.Lists.{either, or_cases, get_push_cases, get_below}
+use Rattle.cx_numbered.proofs.Numbered.{either, or_cases, get_push_cases, get_below}
 use Rattle.cx_derive.specs.Lists.{is_among, with_new, with_all, without_repeats}
 use Rattle.cx_derive.specs.Sequents.{Sequent, same_sequent}
 use Rattle.cx_derive.specs.Derivations.{Inference, conclusions, IsRightStep, IsRight, EndsWith, against}

@@ -6,8 +6,8 @@ use Rattle.std.specs.Option.{option_or}
 use Rattle.std.specs.Cmp.Lexicographic.{pointwise}
 use Rattle.std.proofs.lemmas.List.{map-append}
 use Rattle.cx_prop.specs.Formula.{Formula, Atom, And, Or, IsEquality, AtomsAre, TellsApart, renamed, same_formula}
-use Rattle.cx_prop.proofs.Lists.{either}
-use Rattle.cx_prop.proofs.Renaming.{renamed-equal, same-renamed}
+use Rattle.cx_numbered.proofs.Numbered.{either}
+use Rattle.cx_prop.proofs.Lemmas.{renamed-equal, same-renamed}
 use Rattle.cx_derive.specs.declared.rule.SequentRule.{SequentRule}
 use Rattle.cx_derive.specs.declared.rule.SequentRule.TheVariants as rule
 use Rattle.cx_derive.specs.Lists.{is_among, with_new, with_all, without_repeats}

@@ -4,8 +4,9 @@ use Rattle.std.specs.List.{list_any, list_all}
 use Rattle.std.proofs.lemmas.List.Folds.{list_any-append}
 use Rattle.cx_prop.specs.Formula.{Formula, Atom, And, Or, IsEquality, same_formula}
 use Rattle.cx_prop.specs.Truth.{Valuation, truth}
-use Rattle.cx_prop.proofs.Lists.{either, or_cases, or_left, or_right, and_left, and_right, and_both}
-use Rattle.cx_prop.proofs.Same.{same_formula-Decides}
+use Rattle.cx_numbered.proofs.Numbered.{either, or_cases, or_left, or_right}
+use Rattle.cx_prop.proofs.Lemmas.{and_left, and_right, and_both}
+use Rattle.cx_prop.proofs.Lemmas.{same_formula-Decides}
 use Rattle.cx_derive.specs.declared.rule.SequentRule.{SequentRule}
 use Rattle.cx_derive.specs.declared.rule.SequentRule.TheVariants as rule
 use Rattle.cx_derive.specs.Lists.{is_among, with_new, with_all}

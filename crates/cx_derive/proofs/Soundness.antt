@@ -3,7 +3,8 @@ use Rattle.std.proofs.Common.{◌≡◌, ℕ, zero, suc, ◌<◌, Bool, true, fa
 use Rattle.std.specs.Prelude.{slice_get}
 use Rattle.cx_prop.specs.Formula.{Formula, IsEquality}
 use Rattle.cx_prop.specs.Truth.{Valuation, truth}
-use Rattle.cx_prop.proofs.Lists.{and_both, get_last}
+use Rattle.cx_numbered.proofs.Numbered.{get_last}
+use Rattle.cx_prop.proofs.Lemmas.{and_both}
 use Rattle.cx_derive.specs.Sequents.{Sequent}
 use Rattle.cx_derive.specs.Derivations.{Inference, conclusions, IsRight, against, EndsWith}
 use Rattle.cx_derive.specs.Laws.{LawOfDerivations}

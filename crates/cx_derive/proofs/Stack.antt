@@ -5,8 +5,8 @@ use Rattle.std.specs.List.{flat_map}
 use Rattle.std.specs.Option.{option_or}
 use Rattle.std.proofs.lemmas.List.{append-nil}
 use Rattle.cx_prop.specs.Formula.{Formula}
-use Rattle.cx_prop.specs.Table.{HasEachOnce}
-use Rattle.cx_prop.proofs.Lists.{get_front, get_last, get_push_cases}
+use Rattle.cx_numbered.specs.Numbered.{HasEachOnce}
+use Rattle.cx_numbered.proofs.Numbered.{get_front, get_last, get_push_cases}
 use Rattle.cx_derive.specs.declared.goal.Goal.{Goal}
 use Rattle.cx_derive.specs.declared.task.Task.{Task}
 use Rattle.cx_derive.specs.declared.task.Task.TheVariants as task
@@ -21,7 +21,7 @@ use Rattle.cx_derive.proofs.Depths.{NoRule, ByRule, case_of, leaf_by_rule, leaf_
 use Rattle.cx_derive.proofs.Found.{goal_eq, insert_is, Explored-insert}
 use Rattle.cx_derive.proofs.Distinct.{Among, all_there, among_all_right}
 use Rattle.cx_prop.specs.Interned.{Interned, same_interned}
-use Rattle.cx_prop.proofs.Same.{same_interned-Decides}
+use Rattle.cx_prop.proofs.Lemmas.{same_interned-Decides}
 
 or_none : (o : Option (Sequent Interned)) → option_or o None ≡ o
 or_none None = refl

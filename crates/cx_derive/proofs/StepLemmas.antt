@@ -5,7 +5,7 @@ use Rattle.std.specs.List.{position_or_len}
 use Rattle.std.proofs.lemmas.Bool.{ltb-false}
 use Rattle.std.proofs.lemmas.List.Sums.{prefix_len-le-length}
 use Rattle.cx_prop.specs.Formula.{Formula}
-use Rattle.cx_prop.specs.Table.{HasEachOnce}
+use Rattle.cx_numbered.specs.Numbered.{HasEachOnce}
 use Rattle.cx_derive.specs.declared.goal.Goal.{Goal}
 use Rattle.cx_derive.specs.Search.{number_among}
 use Rattle.cx_derive.specs.Goals.{sequent_of, sequents_of, HasGoal, HasGoals}

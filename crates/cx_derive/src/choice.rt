@@ -1,7 +1,7 @@
 ghost use Rattle.std.specs.Prelude.{◌≡◌, ◌<◌, ◌+◌, ◌++◌, [], IsTrue, length, take, drop, OnOk, OnErr, IfOk, IsErrOf};
 ghost use Rattle.std.specs.List.{list_any};
 ghost use Rattle.cx_base.specs.declared.stop.Stop.TheVariants.{NoMemory};
-ghost use Rattle.cx_prop.specs.Table.{HasEachOnce};
+ghost use Rattle.cx_numbered.specs.Numbered.{HasEachOnce};
 ghost use Rattle.cx_derive.specs.Lists.{is_among, with_all, without_repeats};
 ghost use Rattle.cx_derive.specs.Search.{chosen as chosen_of};
 ghost use Rattle.cx_prop.specs.Interned.{same_interned};

@@ -1,6 +1,6 @@
 ghost use Rattle.std.specs.Prelude.{◌≡◌, [], ◌++◌, ◌∷◌, map, IfOk, OnOk, OnErr, IsErrOf};
 ghost use Rattle.cx_base.specs.declared.stop.Stop.TheVariants.{NoMemory};
-ghost use Rattle.cx_prop.specs.Table.{HasEachOnce};
+ghost use Rattle.cx_numbered.specs.Numbered.{HasEachOnce};
 ghost use Rattle.cx_derive.specs.Search.{inferences, inference_in, number_among};
 ghost use Rattle.cx_prop.specs.Interned.{same_interned};
 ghost use Rattle.cx_derive.specs.Goals.{HasGoal, HasGoals, sequent_of, sequents_of, goals_of};

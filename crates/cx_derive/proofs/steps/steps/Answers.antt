@@ -1,7 +1,7 @@
 use Rattle.std.proofs.Common.{◌≡◌, ◌+◌, List, [], ◌∷◌, ◌++◌, map, take, Some, inl, inr, ap, sym, subst, ◌∙◌}
 use Rattle.std.specs.Prelude.{slice_get}
 use Rattle.std.proofs.lemmas.List.{map-append, take_more}
-use Rattle.cx_prop.proofs.Lists.{get_push_cases}
+use Rattle.cx_numbered.proofs.Numbered.{get_push_cases}
 use Rattle.cx_derive.specs.declared.deriv.Step.{Step}
 use Rattle.cx_derive.specs.declared.goal.Goal.{Goal}
 use Rattle.cx_derive.specs.Search.{inference_in}
