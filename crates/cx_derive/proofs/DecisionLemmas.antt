@@ -16,60 +16,62 @@ use Rattle.cx_derive.specs.Answers.{HasNumbers, inference_of, IsAnswer, Shows}
 use Rattle.cx_derive.proofs.Soundness.{against_holds}
 use Rattle.cx_derive.proofs.Leaves.{closed_holds, open_fails, leaf_atoms}
 use Rattle.cx_derive.proofs.Order.{canonical_right, canonical_ends}
+use Rattle.cx_prop.specs.Interned.{Interned, same_interned}
+use Rattle.cx_prop.proofs.Lemmas.{same_interned-Decides}
 
 fails_both : (a b : Bool) → (not (a && true) || (b || false)) ≡ false → (a ≡ true) × (b ≡ false)
 fails_both true true h = absurd (true≢false h)
 fails_both true false h = (refl, refl)
 fails_both false b h = absurd (true≢false h)
 
-module _ (table : List Formula) (p q : FormulaId) (g : Goal) (left : g.left.items ≡ p ∷ []) (right : g.right.items ≡ q ∷ []) where
-  abbrev P : Formula
+module _ (table : List (Formula Interned)) (p q : FormulaId) (g : Goal) (left : g.left.items ≡ p ∷ []) (right : g.right.items ≡ q ∷ []) where
+  abbrev P : Formula Interned
   P = formula_at table p
 
-  abbrev Q : Formula
+  abbrev Q : Formula Interned
   Q = formula_at table q
 
   goal_is : sequent_of table g ≡ against P Q
   goal_is i = record { left = formulas_at table (left i); right = formulas_at table (right i) }
 
   module _ (old new : List Goal) (empty : old ≡ []) (found : Explores table old new (sequent_of table g) None) where
-    no_leaf : open_leaf (against P Q) ≡ None
-    no_leaf = ap open_leaf (sym goal_is) ∙ found.0
+    no_leaf : (open_leaf same_interned) (against P Q) ≡ None
+    no_leaf = ap (open_leaf same_interned) (sym goal_is) ∙ found.0
 
     pub entailed : Entails (formula_at table p) (formula_at table q)
-    entailed v t = against_holds v P Q (closed_holds v (against P Q) no_leaf) t
+    entailed v t = against_holds v P Q (closed_holds same_interned same_interned-Decides v (against P Q) no_leaf) t
 
-    all_is : inferences (sequents_of table new) ≡ canonical P Q
+    all_is : (inferences same_interned) (sequents_of table new) ≡ canonical same_interned P Q
     all_is =
-        ap inferences
-        (found.1 ∙ (λ i. with_all same_sequent (sequents_of table (empty i)) (sequents_below (sequent_of table g)))
-        ∙ ap (λ (s : Sequent). without_repeats same_sequent (sequents_below s)) goal_is)
+        ap (inferences same_interned)
+        (found.1 ∙ (λ i. with_all (same_sequent same_interned) (sequents_of table (empty i)) (sequents_below same_interned (sequent_of table g)))
+        ∙ ap (λ (s : Sequent Interned). without_repeats (same_sequent same_interned) (sequents_below same_interned s)) goal_is)
 
-    pub answers_derived : (d : List Step) → map (inference_of table) d ≡ inferences (sequents_of table new) → (open_leaf (against (formula_at table p) (formula_at table q)) ≡ None) × (map (inference_of table) d ≡ canonical (formula_at table p) (formula_at table q))
+    pub answers_derived : (d : List Step) → map (inference_of table) d ≡ inferences same_interned (sequents_of table new) → (open_leaf same_interned (against (formula_at table p) (formula_at table q)) ≡ None) × (map (inference_of table) d ≡ canonical same_interned (formula_at table p) (formula_at table q))
     answers_derived d e = (no_leaf, e ∙ all_is)
 
-    pub shows_derived : (d : List Step) → map (inference_of table) d ≡ inferences (sequents_of table new) → Shows table (formula_at table p) (formula_at table q) (answer.Derived d)
+    pub shows_derived : (d : List Step) → map (inference_of table) d ≡ inferences same_interned (sequents_of table new) → Shows table (formula_at table p) (formula_at table q) (answer.Derived d)
     shows_derived d e =
-        (entailed, subst IsRight (sym (e ∙ all_is)) (canonical_right P Q no_leaf), subst (λ (is : List Inference). EndsWith is (against P Q)) (sym (e ∙ all_is)) (canonical_ends P Q no_leaf))
+        (entailed, subst (IsRight same_interned) (sym (e ∙ all_is)) (canonical_right same_interned same_interned-Decides P Q no_leaf), subst (λ (is : List (Inference Interned)). EndsWith is (against P Q)) (sym (e ∙ all_is)) (canonical_ends same_interned same_interned-Decides P Q no_leaf))
 
   module _ (old new : List Goal) (leaf : Goal) (found : Explores table old new (sequent_of table g) (Some leaf)) where
-    a_leaf : open_leaf (against P Q) ≡ Some (sequent_of table leaf)
-    a_leaf = ap open_leaf (sym goal_is) ∙ found.0
+    a_leaf : (open_leaf same_interned) (against P Q) ≡ Some (sequent_of table leaf)
+    a_leaf = ap (open_leaf same_interned) (sym goal_is) ∙ found.0
 
     pub answers_separated : (v : List FormulaId) → v ≡ leaf.left.items → IsAnswer table (formula_at table p) (formula_at table q) (answer.Separated v)
     answers_separated v e = (sequent_of table leaf, a_leaf, ap (formulas_at table) e)
 
-    both : (truth (among (atoms_of (formulas_at table leaf.left.items))) P ≡ true) × (truth (among (atoms_of (formulas_at table leaf.left.items))) Q ≡ false)
-    both = fails_both (truth (among (atoms_of (formulas_at table leaf.left.items))) P) (truth (among (atoms_of (formulas_at table leaf.left.items))) Q) (open_fails (sequent_of table leaf) (against P Q) a_leaf)
+    both : (truth (among same_interned (atoms_of (formulas_at table leaf.left.items))) P ≡ true) × (truth (among same_interned (atoms_of (formulas_at table leaf.left.items))) Q ≡ false)
+    both = fails_both (truth (among same_interned (atoms_of (formulas_at table leaf.left.items))) P) (truth (among same_interned (atoms_of (formulas_at table leaf.left.items))) Q) (open_fails same_interned same_interned-Decides (sequent_of table leaf) (against P Q) a_leaf)
 
-    pub separates : (truth (among (atoms_of (formulas_at table leaf.left.items))) (formula_at table p) ≡ true) × (truth (among (atoms_of (formulas_at table leaf.left.items))) (formula_at table q) ≡ true → ⊥)
+    pub separates : (truth (among same_interned (atoms_of (formulas_at table leaf.left.items))) (formula_at table p) ≡ true) × (truth (among same_interned (atoms_of (formulas_at table leaf.left.items))) (formula_at table q) ≡ true → ⊥)
     separates = (both.0, λ t. true≢false (sym t ∙ both.1))
 
     pub shows_separated : (v : List FormulaId) → v ≡ leaf.left.items → Shows table (formula_at table p) (formula_at table q) (answer.Separated v)
     shows_separated v e = subst (λ (w : List FormulaId). Shows table P Q (answer.Separated w)) (sym e) separates
 
     pub not_entailed : Entails (formula_at table p) (formula_at table q) → ⊥
-    not_entailed e = separates.1 (e (among (atoms_of (formulas_at table leaf.left.items))) both.0)
+    not_entailed e = separates.1 (e (among same_interned (atoms_of (formulas_at table leaf.left.items))) both.0)
 
     pub numbers_separated : (v : List FormulaId) → v ≡ leaf.left.items → HasNumbers table (answer.Separated v)
-    numbers_separated v e = subst (λ (w : List FormulaId). HasNumbers table (answer.Separated w)) (sym e) (found.1.left, leaf_atoms (against P Q) (sequent_of table leaf) a_leaf)
+    numbers_separated v e = subst (λ (w : List FormulaId). HasNumbers table (answer.Separated w)) (sym e) (found.1.left, leaf_atoms same_interned same_interned-Decides (against P Q) (sequent_of table leaf) a_leaf)

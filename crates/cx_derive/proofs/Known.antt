@@ -4,7 +4,7 @@ use Rattle.std.specs.Cmp.{unsigned_Decides}
 use Rattle.std.proofs.Math.Bool.{or-false, or_assoc}
 use Rattle.std.proofs.lemmas.List.Folds.{list_any-append}
 use Rattle.cx_base.specs.declared.numbers.FormulaId.{FormulaId}
-use Rattle.cx_prop.proofs.Lists.{either}
+use Rattle.cx_numbered.proofs.Numbered.{either}
 use Rattle.cx_derive.specs.Lists.{is_among, with_new, with_all}
 use Rattle.cx_derive.specs.Goals.{same_number}
 

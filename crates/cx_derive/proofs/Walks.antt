@@ -3,12 +3,13 @@ use Rattle.std.proofs.Common.{◌≡◌, ℕ, ◌+◌, ◌<◌, ◌≤◌, Bool,
 use Rattle.std.proofs.lemmas.List.{map-append, take_more, drop_more, take_all, drop_all}
 use Rattle.std.proofs.lemmas.List.Sums.{fold-append}
 use Rattle.cx_base.specs.declared.numbers.FormulaId.{FormulaId}
-use Rattle.cx_prop.specs.Formula.{Atomic, Formula, Atom, And, Or}
+use Rattle.cx_prop.specs.Formula.{Formula, Atom, And, Or}
 use Rattle.cx_prop.specs.Table.{formula_at}
 use Rattle.cx_derive.specs.Lists.{is_among, with_new, with_all}
 use Rattle.cx_derive.specs.Sequents.{Leftmost, Atoms, Conjunction, Disjunction, behind, leftmost}
 use Rattle.cx_derive.specs.Goals.{formulas_at, split_of}
 use Rattle.cx_derive.specs.declared.leftmost.Split.TheVariants as split
+use Rattle.cx_prop.specs.Interned.{Interned}
 
 -- what is new of two lists in turn
 pub with_all-append : {X : Type 0} (same : X → X → Bool) (xs ys zs : List X) → with_all same xs (ys ++ zs) ≡ with_all same (with_all same xs ys) zs
@@ -29,34 +30,34 @@ with_all_more same xs ys i d h =
 
 -- ---- the leftmost compound formula
 
-abbrev pub behind_all : List Formula → Leftmost → Leftmost
+abbrev pub behind_all : {A : Type 0} → List (Formula A) → Leftmost A → Leftmost A
 behind_all [] l = l
 behind_all (p ∷ ps) l = behind p (behind_all ps l)
 
-behind_all-push : (ps : List Formula) (p : Formula) (l : Leftmost) → behind_all (ps ++ p ∷ []) l ≡ behind_all ps (behind p l)
+behind_all-push : {A : Type 0} (ps : List (Formula A)) (p : Formula A) (l : Leftmost A) → behind_all (ps ++ p ∷ []) l ≡ behind_all ps (behind p l)
 behind_all-push [] p l = refl
 behind_all-push (q ∷ ps) p l = ap (behind q) (behind_all-push ps p l)
 
-behind_atoms : (ps : List Formula) → behind_all ps Atoms ≡ Atoms
+behind_atoms : {A : Type 0} (ps : List (Formula A)) → behind_all ps Atoms ≡ Atoms
 behind_atoms [] = refl
 behind_atoms (p ∷ ps) = ap (behind p) (behind_atoms ps)
 
-behind_conjunction : (ps : List Formula) (p q : Formula) (after : List Formula) → behind_all ps (Conjunction [] p q after) ≡ Conjunction ps p q after
+behind_conjunction : {A : Type 0} (ps : List (Formula A)) (p q : Formula A) (after : List (Formula A)) → behind_all ps (Conjunction [] p q after) ≡ Conjunction ps p q after
 behind_conjunction [] p q after = refl
 behind_conjunction (r ∷ ps) p q after = ap (behind r) (behind_conjunction ps p q after)
 
-behind_disjunction : (ps : List Formula) (p q : Formula) (after : List Formula) → behind_all ps (Disjunction [] p q after) ≡ Disjunction ps p q after
+behind_disjunction : {A : Type 0} (ps : List (Formula A)) (p q : Formula A) (after : List (Formula A)) → behind_all ps (Disjunction [] p q after) ≡ Disjunction ps p q after
 behind_disjunction [] p q after = refl
 behind_disjunction (r ∷ ps) p q after = ap (behind r) (behind_disjunction ps p q after)
 
 -- the walk has passed atoms alone
-pub record Passed (table : List Formula) (fs : List FormulaId) (i : ℕ) : Type 0 where
+pub record Passed (table : List (Formula Interned)) (fs : List FormulaId) (i : ℕ) : Type 0 where
   pub so_far : leftmost (formulas_at table fs) ≡ behind_all (formulas_at table (take i fs)) (leftmost (formulas_at table (drop i fs)))
 
-pub Passed-none : (table : List Formula) (fs : List FormulaId) → Passed table fs 0
+pub Passed-none : (table : List (Formula Interned)) (fs : List FormulaId) → Passed table fs 0
 Passed-none table fs = record { so_far = refl }
 
-module _ (table : List Formula) (fs : List FormulaId) (i : ℕ) (d : FormulaId) (lt : i < length fs) (passed : Passed table fs i) where
+module _ (table : List (Formula Interned)) (fs : List FormulaId) (i : ℕ) (d : FormulaId) (lt : i < length fs) (passed : Passed table fs i) where
   abbrev f : FormulaId
   f = get_or fs i d
 
@@ -65,28 +66,28 @@ module _ (table : List Formula) (fs : List FormulaId) (i : ℕ) (d : FormulaId) 
       passed.so_far
       ∙ ap (λ (gs : List FormulaId). behind_all (formulas_at table (take i fs)) (leftmost (formulas_at table gs))) (drop_more fs i d lt)
 
-  pub Passed-more : (a : Atomic) → formula_at table (get_or fs i d) ≡ Atom a → Passed table fs (i + 1)
+  pub Passed-more : (a : Interned) → formula_at table (get_or fs i d) ≡ Atom a → Passed table fs (i + 1)
   Passed-more a e = record {
     so_far =
         here
-        ∙ ap (λ (p : Formula). behind_all (formulas_at table (take i fs)) (leftmost (p ∷ formulas_at table (drop (i + 1) fs)))) e
+        ∙ ap (λ (p : Formula Interned). behind_all (formulas_at table (take i fs)) (leftmost (p ∷ formulas_at table (drop (i + 1) fs)))) e
         ∙ sym (behind_all-push (formulas_at table (take i fs)) (Atom a) (leftmost (formulas_at table (drop (i + 1) fs))))
-        ∙ ap (λ (p : Formula). behind_all (formulas_at table (take i fs) ++ p ∷ []) (leftmost (formulas_at table (drop (i + 1) fs)))) (sym e)
-        ∙ ap (λ (ps : List Formula). behind_all ps (leftmost (formulas_at table (drop (i + 1) fs)))) (sym (map-append (formula_at table) (take i fs) (f ∷ [])))
+        ∙ ap (λ (p : Formula Interned). behind_all (formulas_at table (take i fs) ++ p ∷ []) (leftmost (formulas_at table (drop (i + 1) fs)))) (sym e)
+        ∙ ap (λ (ps : List (Formula Interned)). behind_all ps (leftmost (formulas_at table (drop (i + 1) fs)))) (sym (map-append (formula_at table) (take i fs) (f ∷ [])))
         ∙ ap (λ (gs : List FormulaId). behind_all (formulas_at table gs) (leftmost (formulas_at table (drop (i + 1) fs)))) (sym (take_more fs i d lt));
   }
 
   pub found_and : (g h : FormulaId) → formula_at table (get_or fs i d) ≡ And (formula_at table g) (formula_at table h) → split_of table fs (split.Both i g h) ≡ leftmost (formulas_at table fs)
   found_and g h e =
-      sym (here ∙ ap (λ (p : Formula). behind_all (formulas_at table (take i fs)) (leftmost (p ∷ formulas_at table (drop (i + 1) fs)))) e
+      sym (here ∙ ap (λ (p : Formula Interned). behind_all (formulas_at table (take i fs)) (leftmost (p ∷ formulas_at table (drop (i + 1) fs)))) e
       ∙ behind_conjunction (formulas_at table (take i fs)) (formula_at table g) (formula_at table h) (formulas_at table (drop (i + 1) fs)))
 
   pub found_or : (g h : FormulaId) → formula_at table (get_or fs i d) ≡ Or (formula_at table g) (formula_at table h) → split_of table fs (split.Either i g h) ≡ leftmost (formulas_at table fs)
   found_or g h e =
-      sym (here ∙ ap (λ (p : Formula). behind_all (formulas_at table (take i fs)) (leftmost (p ∷ formulas_at table (drop (i + 1) fs)))) e
+      sym (here ∙ ap (λ (p : Formula Interned). behind_all (formulas_at table (take i fs)) (leftmost (p ∷ formulas_at table (drop (i + 1) fs)))) e
       ∙ behind_disjunction (formulas_at table (take i fs)) (formula_at table g) (formula_at table h) (formulas_at table (drop (i + 1) fs)))
 
-pub Passed-all : (table : List Formula) (fs : List FormulaId) (n : ℕ) → length fs ≤ n → Passed table fs n → Atoms ≡ leftmost (formulas_at table fs)
+pub Passed-all : (table : List (Formula Interned)) (fs : List FormulaId) (n : ℕ) → length fs ≤ n → Passed table fs n → Atoms ≡ leftmost (formulas_at table fs)
 Passed-all table fs n h passed =
     sym (passed.so_far ∙ ap (λ (gs : List FormulaId). behind_all (formulas_at table (take n fs)) (leftmost (formulas_at table gs))) (drop_all n fs h) ∙ behind_atoms (formulas_at table (take n fs)))
 

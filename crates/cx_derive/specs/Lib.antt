@@ -2,6 +2,8 @@ pub mod Lists
 pub mod Sequents
 pub mod Derivations
 pub mod Search
+pub mod Renaming
+pub mod Laws
 pub mod Goals
 pub mod Tasks
 pub mod Answers

@@ -11,7 +11,7 @@ module _ {X : Type 0} (same : X → X → Bool) where
   abbrev pub with_new : List X → X → List X
   with_new xs x = if is_among xs x then xs else xs ++ x ∷ []
 
-  -- a list, and behind it what is new of another
+  -- a list, and after it what is new of another
   unfoldable pub with_all : List X → List X → List X
   with_all xs ys = fold with_new xs ys
 

@@ -1,14 +1,15 @@
 ghost use Rattle.std.specs.Prelude.{◌≡◌, ◌<◌, ◌+◌, ◌++◌, [], IsTrue, length, take, drop, OnOk, OnErr, IfOk, IsErrOf};
 ghost use Rattle.std.specs.List.{list_any};
 ghost use Rattle.cx_base.specs.declared.stop.Stop.TheVariants.{NoMemory};
-ghost use Rattle.cx_prop.specs.Table.{HasEachOnce};
+ghost use Rattle.cx_numbered.specs.Numbered.{HasEachOnce};
 ghost use Rattle.cx_derive.specs.Lists.{is_among, with_all, without_repeats};
 ghost use Rattle.cx_derive.specs.Search.{chosen as chosen_of};
+ghost use Rattle.cx_prop.specs.Interned.{same_interned};
 ghost use Rattle.cx_derive.specs.Goals.{same_number, HasGoal, HasChoice, IsPlace, OnLeft, OnRight, sequent_of, choice_of};
 
 use crate::goal::Goal;
 use crate::leftmost::{Split, leftmost};
-use crate::rule::Rule;
+use crate::rule::SequentRule;
 use cx_base::{FormulaId, Stop};
 use cx_prop::Formulas;
 use indexmap::IndexSet;
@@ -87,7 +88,11 @@ fn with_right(alloc: Global, goal: &Goal, right: Vec<FormulaId>) -> Result<Goal,
 }
 
 /// The rule that fits on the left, with its premises.
-fn on_left(alloc: Global, goal: &Goal, split: Split) -> Result<Option<(Rule, Premises)>, Stop>
+fn on_left(
+    alloc: Global,
+    goal: &Goal,
+    split: Split,
+) -> Result<Option<(SequentRule, Premises)>, Stop>
     requires { IsPlace goal.now.left.items split }
     ensures ok { IfOk result (λ c. OnLeft goal.now split c) }
     ensures only_memory { OnErr result (IsErrOf result NoMemory) }
@@ -97,20 +102,24 @@ fn on_left(alloc: Global, goal: &Goal, split: Split) -> Result<Option<(Rule, Pre
         Split::Both(at, p, q) => {
             let left = in_place(alloc, &goal.left, at, &[p, q])?;
             let premise = with_left(alloc, goal, left)?;
-            Ok(Some((Rule::AndL, Premises::One(premise))))
+            Ok(Some((SequentRule::AndL, Premises::One(premise))))
         }
         Split::Either(at, p, q) => {
             let left = in_place(alloc, &goal.left, at, &[p])?;
             let first = with_left(alloc, goal, left)?;
             let left = in_place(alloc, &goal.left, at, &[q])?;
             let second = with_left(alloc, goal, left)?;
-            Ok(Some((Rule::OrL, Premises::Two(first, second))))
+            Ok(Some((SequentRule::OrL, Premises::Two(first, second))))
         }
     }
 }
 
 /// The rule that fits on the right, with its premises.
-fn on_right(alloc: Global, goal: &Goal, split: Split) -> Result<Option<(Rule, Premises)>, Stop>
+fn on_right(
+    alloc: Global,
+    goal: &Goal,
+    split: Split,
+) -> Result<Option<(SequentRule, Premises)>, Stop>
     requires { IsPlace goal.now.right.items split }
     ensures ok { IfOk result (λ c. OnRight goal.now split c) }
     ensures only_memory { OnErr result (IsErrOf result NoMemory) }
@@ -122,12 +131,12 @@ fn on_right(alloc: Global, goal: &Goal, split: Split) -> Result<Option<(Rule, Pr
             let first = with_right(alloc, goal, right)?;
             let right = in_place(alloc, &goal.right, at, &[q])?;
             let second = with_right(alloc, goal, right)?;
-            Ok(Some((Rule::AndR, Premises::Two(first, second))))
+            Ok(Some((SequentRule::AndR, Premises::Two(first, second))))
         }
         Split::Either(at, p, q) => {
             let right = in_place(alloc, &goal.right, at, &[p, q])?;
             let premise = with_right(alloc, goal, right)?;
-            Ok(Some((Rule::OrR, Premises::One(premise))))
+            Ok(Some((SequentRule::OrR, Premises::One(premise))))
         }
     }
 }
@@ -137,15 +146,15 @@ pub fn chosen(
     alloc: Global,
     formulas: &Formulas,
     goal: &Goal,
-) -> Result<Option<(Rule, Premises)>, Stop>
+) -> Result<Option<(SequentRule, Premises)>, Stop>
     requires distinct { HasEachOnce formulas.now }
     requires goal { HasGoal formulas.now goal.now }
-    ensures choice { IfOk result (λ c. choice_of formulas.now c ≡ chosen_of (sequent_of formulas.now goal.now)) }
+    ensures choice { IfOk result (λ c. choice_of formulas.now c ≡ chosen_of same_interned (sequent_of formulas.now goal.now)) }
     ensures has { IfOk result (HasChoice formulas.now) }
     ensures only_memory { OnErr result (IsErrOf result NoMemory) }
 {
     if shares(alloc, &goal.left, &goal.right)? {
-        return Ok(Some((Rule::Id, Premises::None)));
+        return Ok(Some((SequentRule::Id, Premises::None)));
     }
     let left = on_left(alloc, goal, leftmost(formulas, &goal.left))?;
     if left.is_some() {

@@ -1,11 +1,11 @@
-use crate::rule::Rule;
+use crate::rule::SequentRule;
 use cx_base::FormulaId;
 use std::marker::Model;
 
 /// A step of a derivation: a sequent, by a rule from the steps whose numbers are its premises.
 #[derive(Debug, Drop)]
 pub struct Step {
-    pub rule: Rule,
+    pub rule: SequentRule,
     pub left: Vec<FormulaId>,
     pub right: Vec<FormulaId>,
     pub premises: Vec<usize>,

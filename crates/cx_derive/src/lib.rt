@@ -16,8 +16,8 @@ mod task;
 pub use answer::Answer;
 pub use decision::entails;
 pub use deriv::{Deriv, Step};
-pub use laws::right_derivations_entail;
-pub use rule::Rule;
-
-#[cfg(test)]
-mod tests;
+pub use laws::{
+    canonical_derivations_are_right, renaming_keeps_derivations, right_derivations_entail,
+    search_goes_by_rules,
+};
+pub use rule::SequentRule;

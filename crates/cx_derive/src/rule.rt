@@ -1,6 +1,6 @@
 /// A rule of the sequent calculus for conjunction and disjunction.
 #[derive(Clone, Copy, Debug, PartialEq, Eq)]
-pub enum Rule {
+pub enum SequentRule {
     /// A formula stands on both sides.
     Id,
     /// The leftmost compound formula on the left is a conjunction: its operands stand in its place.

@@ -1,6 +1,6 @@
 ghost use Rattle.std.specs.Prelude.{◌≡◌, [], ◌∷◌, ◌++◌, OnOk, OnErr, IfOk, IsErrOf};
 ghost use Rattle.cx_base.specs.declared.stop.Stop.TheVariants.{NoMemory};
-ghost use Rattle.cx_prop.specs.Table.{HasEachOnce};
+ghost use Rattle.cx_numbered.specs.Numbered.{HasEachOnce};
 ghost use Rattle.cx_derive.specs.declared.task.Task.TheVariants as task;
 ghost use Rattle.cx_derive.specs.Goals.{HasGoal, HasGoals, Explored, Explores, sequent_of, goals_of};
 ghost use Rattle.cx_derive.specs.Tasks.{onto, Goes};

@@ -1,14 +1,15 @@
 ghost use Rattle.std.specs.Prelude.{◌≡◌, [], ◌++◌, ◌∷◌, map, IfOk, OnOk, OnErr, IsErrOf};
 ghost use Rattle.cx_base.specs.declared.stop.Stop.TheVariants.{NoMemory};
-ghost use Rattle.cx_prop.specs.Table.{HasEachOnce};
+ghost use Rattle.cx_numbered.specs.Numbered.{HasEachOnce};
 ghost use Rattle.cx_derive.specs.Search.{inferences, inference_in, number_among};
+ghost use Rattle.cx_prop.specs.Interned.{same_interned};
 ghost use Rattle.cx_derive.specs.Goals.{HasGoal, HasGoals, sequent_of, sequents_of, goals_of};
 ghost use Rattle.cx_derive.specs.Answers.{HasStep, HasSteps, inference_of};
 
 use crate::choice::{Premises, chosen};
 use crate::deriv::{Deriv, Step};
 use crate::goal::Goal;
-use crate::rule::Rule;
+use crate::rule::SequentRule;
 use cx_base::Stop;
 use cx_prop::Formulas;
 use indexmap::IndexSet;
@@ -19,7 +20,7 @@ fn number(formulas: &Formulas, found: &IndexSet<Goal>, goal: &Goal) -> usize
     requires distinct { HasEachOnce formulas.now }
     requires found { HasGoals formulas.now found.now.keys }
     requires goal { HasGoal formulas.now goal.now }
-    ensures { result ≡ number_among (sequents_of formulas.now found.now.keys) (sequent_of formulas.now goal.now) }
+    ensures { result ≡ number_among same_interned (sequents_of formulas.now found.now.keys) (sequent_of formulas.now goal.now) }
 {
     let _ = formulas;
     found.get_index_of(goal).unwrap_or(found.len())
@@ -35,7 +36,7 @@ fn numbers(
     requires distinct { HasEachOnce formulas.now }
     requires found { HasGoals formulas.now found.now.keys }
     requires premises { HasGoals formulas.now (goals_of premises.now) }
-    ensures ok { IfOk result (λ v. v.items ≡ map (number_among (sequents_of formulas.now found.now.keys)) (sequents_of formulas.now (goals_of premises.now))) }
+    ensures ok { IfOk result (λ v. v.items ≡ map (number_among same_interned (sequents_of formulas.now found.now.keys)) (sequents_of formulas.now (goals_of premises.now))) }
     ensures only_memory { OnErr result (IsErrOf result NoMemory) }
 {
     let mut numbers = Vec::new(alloc);
@@ -63,7 +64,7 @@ fn step(
     requires distinct { HasEachOnce formulas.now }
     requires found { HasGoals formulas.now found.now.keys }
     requires goal { HasGoal formulas.now goal.now }
-    ensures ok { IfOk result (λ s. inference_of formulas.now s ≡ inference_in (sequents_of formulas.now found.now.keys) (sequent_of formulas.now goal.now)) }
+    ensures ok { IfOk result (λ s. inference_of formulas.now s ≡ inference_in same_interned (sequents_of formulas.now found.now.keys) (sequent_of formulas.now goal.now)) }
     ensures has { IfOk result (HasStep formulas.now) }
     ensures only_memory { OnErr result (IsErrOf result NoMemory) }
 {
@@ -72,7 +73,7 @@ fn step(
     let Some((rule, premises)) = chosen(alloc, formulas, goal)? else {
         let premises = Vec::new(alloc);
         return Ok(Step {
-            rule: Rule::Id,
+            rule: SequentRule::Id,
             left,
             right,
             premises,
@@ -91,7 +92,7 @@ fn step(
 pub fn steps(alloc: Global, formulas: &Formulas, found: &IndexSet<Goal>) -> Result<Deriv, Stop>
     requires distinct { HasEachOnce formulas.now }
     requires found { HasGoals formulas.now found.now.keys }
-    ensures ok { IfOk result (λ d. map (inference_of formulas.now) d ≡ inferences (sequents_of formulas.now found.now.keys)) }
+    ensures ok { IfOk result (λ d. map (inference_of formulas.now) d ≡ inferences same_interned (sequents_of formulas.now found.now.keys)) }
     ensures has { IfOk result (HasSteps formulas.now) }
     ensures only_memory { OnErr result (IsErrOf result NoMemory) }
 {

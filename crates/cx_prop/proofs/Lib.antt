@@ -1,6 +1,8 @@
-pub mod Lists
+pub mod Tests
 pub mod Same
 pub mod ClausesLemmas
 pub mod CountingLemmas
+pub mod Renaming
 pub mod Tables
-pub mod Placing
+pub mod Placed
+pub mod Lemmas

@@ -1,46 +1,47 @@
 -- What a table keeps, as formulas are added.
-use Rattle.std.proofs.Common.{◌≡◌, ℕ, zero, suc, ◌+◌, ◌<◌, ◌≤◌, Bool, true, false, List, [], ◌∷◌, ◌++◌, map, length, get_or, Option, Some, refl, sym, ap, subst, ◌∙◌, ◌⊎◌, inl, inr, length-append, true≢false, arith}
+use Rattle.std.proofs.Common.{◌≡◌, ℕ, zero, suc, ◌+◌, ◌<◌, ◌≤◌, Bool, true, false, List, [], ◌∷◌, ◌++◌, map, take, length, get_or, Option, Some, refl, sym, ap, subst, ◌∙◌, ◌⊎◌, inl, inr, length-append, arith}
 use Rattle.std.specs.Prelude.{slice_get, fold, IsOk, Result, Ok, Err, IfOk, OnOk, OnErr, cond, option_map}
-use Rattle.cx_base.specs.declared.stop.Stop.{Stop}
-use Rattle.std.specs.List.{list_any}
+use Rattle.std.specs.Global.{Vec}
 use Rattle.std.specs.Map.{keys_of}
+use Rattle.std.proofs.lemmas.List.{take_all}
 use Rattle.cx_base.specs.declared.numbers.FormulaId.{FormulaId}
+use Rattle.cx_base.specs.declared.numbers.NodeId.{NodeId}
+use Rattle.cx_base.specs.declared.numbers.TermId.{TermId}
+use Rattle.cx_base.specs.declared.stop.Stop.{Stop}
+use Rattle.cx_numbered.specs.Numbered.{HasEachOnce, IsNumberOf, Grows, is_among, put}
+use Rattle.cx_numbered.proofs.Numbered.{either, get_front, get_last, get_push_cases, get_below, get_or_is, get_is, get_or_front, grows_self, once_from_get, number_from_get, number_alone, put_at, put_last, put_grows, get_among}
 use Rattle.cx_prop.specs.declared.counts.Counts.{Counts}
+use Rattle.cx_prop.specs.declared.shape.Noted.{Noted}
 use Rattle.cx_prop.specs.declared.shape.Shape.{Shape}
 use Rattle.cx_prop.specs.declared.shape.Shape.TheVariants as shape
-use Rattle.cx_prop.specs.Formula.{Atomic, Formula, Atom, And, Or, same_atomic, same_formula}
+use Rattle.cx_prop.specs.Formula.{Formula, Atom, And, Or}
+use Rattle.cx_prop.specs.Interned.{Interned, same_interned, no_atom}
 use Rattle.cx_prop.specs.Truth.{truth, assigned}
-use Rattle.cx_prop.specs.declared.atom_key.AtomKey.{AtomKey}
 use Rattle.cx_prop.specs.Counting.{counts_of, saturated}
-use Rattle.cx_prop.specs.Table.{atoms_of, formula_at, with_formula, IsNumberOf, Grows}
-use Rattle.cx_prop.specs.Kept.{spelled, formulas_of, PointsBelow, Keeps, Places, atomic_of}
-use Rattle.cx_prop.proofs.Lists.{either, get_front, get_last, get_push_cases, get_below, get_or_is, get_is, get_or_front, or_cases, or_left, or_right}
-use Rattle.cx_prop.proofs.Placing.{Inserts}
-use Rattle.cx_prop.proofs.Same.{same_atomic-Decides, same_formula-Decides}
+use Rattle.cx_prop.specs.Table.{atoms_of, formula_at, same_stored}
+use Rattle.cx_prop.specs.Kept.{Mapping, mappings, spelled, formulas_of, PointsBelow, Keeps, IsTable, Puts, Places}
+use Rattle.cx_prop.proofs.Same.{same_interned-Decides, same_stored-Decides}
 
 abbrev id : ℕ → FormulaId
 id i = record { 0 = i }
 
-abbrev no_atom : Atomic
-no_atom = record { node = record { 0 = 0 }; mapping = [] }
-
-formula_at-push : (ps : List Formula) (p : Formula) (i : ℕ) → i < length ps → formula_at (ps ++ p ∷ []) (id i) ≡ formula_at ps (id i)
+formula_at-push : (ps : List (Formula Interned)) (p : Formula Interned) (i : ℕ) → i < length ps → formula_at (ps ++ p ∷ []) (id i) ≡ formula_at ps (id i)
 formula_at-push ps p i h = get_or_front ps (p ∷ []) i (Atom no_atom) h
 
-spelled-push : (atoms : List Atomic) (ps : List Formula) (p : Formula) (i : ℕ) (s : Shape) → PointsBelow atoms i s → i ≤ length ps → spelled atoms (ps ++ p ∷ []) s ≡ spelled atoms ps s
-spelled-push atoms ps p i (shape.Atom n) h le = refl
-spelled-push atoms ps p i (shape.And f g) h le = λ j. And (formula_at-push ps p f (omega (arith, h.0)) j) (formula_at-push ps p g (omega (arith, h.1)) j)
-spelled-push atoms ps p i (shape.Or f g) h le = λ j. Or (formula_at-push ps p f (omega (arith, h.0)) j) (formula_at-push ps p g (omega (arith, h.1)) j)
+spelled-push : (maps : List Mapping) (ps : List (Formula Interned)) (p : Formula Interned) (i : ℕ) (s : Shape) → PointsBelow maps i s → i ≤ length ps → spelled maps (ps ++ p ∷ []) s ≡ spelled maps ps s
+spelled-push maps ps p i (shape.Atom n m) h le = refl
+spelled-push maps ps p i (shape.And f g) h le = λ j. And (formula_at-push ps p f (omega (arith, h.0)) j) (formula_at-push ps p g (omega (arith, h.1)) j)
+spelled-push maps ps p i (shape.Or f g) h le = λ j. Or (formula_at-push ps p f (omega (arith, h.0)) j) (formula_at-push ps p g (omega (arith, h.1)) j)
 
-spelled-atom : (atoms : List Atomic) (a : Atomic) (ps : List Formula) (i : ℕ) (s : Shape) → PointsBelow atoms i s → spelled (atoms ++ a ∷ []) ps s ≡ spelled atoms ps s
-spelled-atom atoms a ps i (shape.Atom n) h = ap Atom (get_or_front atoms (a ∷ []) n no_atom h)
-spelled-atom atoms a ps i (shape.And f g) h = refl
-spelled-atom atoms a ps i (shape.Or f g) h = refl
+spelled-map : (maps : List Mapping) (m : Mapping) (ps : List (Formula Interned)) (i : ℕ) (s : Shape) → PointsBelow maps i s → spelled (maps ++ m ∷ []) ps s ≡ spelled maps ps s
+spelled-map maps m ps i (shape.Atom n k) h = ap (λ (o : Mapping). Atom (record { node = n; mapping = o })) (get_or_front maps (m ∷ []) k [] h)
+spelled-map maps m ps i (shape.And f g) h = refl
+spelled-map maps m ps i (shape.Or f g) h = refl
 
-below-atom : (atoms : List Atomic) (a : Atomic) (i : ℕ) (s : Shape) → PointsBelow atoms i s → PointsBelow (atoms ++ a ∷ []) i s
-below-atom atoms a i (shape.Atom n) h = omega (arith, h, length-append atoms (a ∷ []))
-below-atom atoms a i (shape.And f g) h = h
-below-atom atoms a i (shape.Or f g) h = h
+below-map : (maps : List Mapping) (m : Mapping) (i : ℕ) (s : Shape) → PointsBelow maps i s → PointsBelow (maps ++ m ∷ []) i s
+below-map maps m i (shape.Atom n k) h = omega (arith, h, length-append maps (m ∷ []))
+below-map maps m i (shape.And f g) h = h
+below-map maps m i (shape.Or f g) h = h
 
 -- ---- the formulas that shapes spell
 
@@ -48,73 +49,111 @@ fold-push : {A B : Type 0} (f : B → A → B) (b : B) (xs : List A) (x : A) →
 fold-push f b [] x = refl
 fold-push f b (y ∷ xs) x = fold-push f (f b y) xs x
 
-pub formulas_of-push : (atoms : List Atomic) (shapes : List Shape) (s : Shape) → formulas_of atoms (shapes ++ s ∷ []) ≡ formulas_of atoms shapes ++ spelled atoms (formulas_of atoms shapes) s ∷ []
+formulas_of-push : (maps : List Mapping) (shapes : List Shape) (s : Shape) → formulas_of maps (shapes ++ s ∷ []) ≡ formulas_of maps shapes ++ spelled maps (formulas_of maps shapes) s ∷ []
 unfolding formulas_of
-formulas_of-push atoms shapes s = fold-push (λ ps t. ps ++ spelled atoms ps t ∷ []) [] shapes s
+formulas_of-push maps shapes s = fold-push (λ ps t. ps ++ spelled maps ps t ∷ []) [] shapes s
 
-fold-atom : (atoms : List Atomic) (a : Atomic) (shapes : List Shape) (ps : List Formula) → ((i : ℕ) (s : Shape) → slice_get shapes i ≡ Some s → (k : ℕ) × PointsBelow atoms k s)
-    → fold (λ qs t. qs ++ spelled (atoms ++ a ∷ []) qs t ∷ []) ps shapes ≡ fold (λ qs t. qs ++ spelled atoms qs t ∷ []) ps shapes
-fold-atom atoms a [] ps h = refl
-fold-atom atoms a (s ∷ shapes) ps h =
+fold-map : (maps : List Mapping) (m : Mapping) (shapes : List Shape) (ps : List (Formula Interned)) → ((i : ℕ) (s : Shape) → slice_get shapes i ≡ Some s → (k : ℕ) × PointsBelow maps k s)
+    → fold (λ qs t. qs ++ spelled (maps ++ m ∷ []) qs t ∷ []) ps shapes ≡ fold (λ qs t. qs ++ spelled maps qs t ∷ []) ps shapes
+fold-map maps m [] ps h = refl
+fold-map maps m (s ∷ shapes) ps h =
     let here = h 0 s refl in
-    ap (λ (qs : List Formula). fold (λ rs t. rs ++ spelled (atoms ++ a ∷ []) rs t ∷ []) qs shapes) (ap (λ (q : Formula). ps ++ q ∷ []) (spelled-atom atoms a ps here.0 s here.1))
-    ∙ fold-atom atoms a shapes (ps ++ spelled atoms ps s ∷ []) (λ i t e. h (suc i) t e)
+    ap (λ (qs : List (Formula Interned)). fold (λ rs t. rs ++ spelled (maps ++ m ∷ []) rs t ∷ []) qs shapes) (ap (λ (q : Formula Interned). ps ++ q ∷ []) (spelled-map maps m ps here.0 s here.1))
+    ∙ fold-map maps m shapes (ps ++ spelled maps ps s ∷ []) (λ i t e. h (suc i) t e)
 
-keys_at : (es : List (Shape × Counts)) (i : ℕ) (s : Shape) → slice_get (keys_of es) i ≡ Some s → (c : Counts) × (slice_get es i ≡ Some (s, c))
+keys_at : (es : List (Shape × Noted)) (i : ℕ) (s : Shape) → slice_get (keys_of es) i ≡ Some s → (c : Noted) × (slice_get es i ≡ Some (s, c))
 keys_at [] i s h = absurd cc
 keys_at (e ∷ es) zero s h =
     let same : e.0 ≡ s = cc in
     (e.1, ap (λ (t : Shape). Some (t, e.1)) same)
 keys_at (e ∷ es) (suc i) s h = keys_at es i s h
 
-pub formulas_of-atom : (atoms : List Atomic) (a : Atomic) (es : List (Shape × Counts)) (ps : List Formula) → Keeps atoms es ps → formulas_of (atoms ++ a ∷ []) (keys_of es) ≡ formulas_of atoms (keys_of es)
+formulas_of-map : (maps : List Mapping) (m : Mapping) (es : List (Shape × Noted)) (ps : List (Formula Interned)) → Keeps maps es ps → formulas_of (maps ++ m ∷ []) (keys_of es) ≡ formulas_of maps (keys_of es)
 unfolding formulas_of
-formulas_of-atom atoms a es ps k = fold-atom atoms a (keys_of es) [] (λ i s e. (i, k.below i (s, (keys_at es i s e).0) (keys_at es i s e).1))
+formulas_of-map maps m es ps k = fold-map maps m (keys_of es) [] (λ i s e. (i, k.below i (s, (keys_at es i s e).0) (keys_at es i s e).1))
+
+-- ---- one more mapping
+
+Keeps-map : (maps : List Mapping) (m : Mapping) (es : List (Shape × Noted)) (ps : List (Formula Interned)) → Keeps maps es ps → ((j : ℕ) → slice_get maps j ≡ Some m → ⊥) → Keeps (maps ++ m ∷ []) es ps
+Keeps-map maps m es ps k absent = record {
+  long = k.long;
+  below = λ i e h. below-map maps m i e.0 (k.below i e h);
+  spells = λ i e h. k.spells i e h ∙ ap Some (sym (spelled-map maps m ps i e.0 (k.below i e h)));
+  counted = λ i e h. k.counted i e h ∙ ap counts_of (sym (spelled-map maps m ps i e.0 (k.below i e h)));
+  before = k.before;
+  alone = k.alone;
+  maps_alone = once_more maps m k.maps_alone absent;
+}
+  where
+    once_more : {X : Type 0} (xs : List X) (x : X) → ((i j : ℕ) (y : X) → slice_get xs i ≡ Some y → slice_get xs j ≡ Some y → i ≡ j) → ((j : ℕ) → slice_get xs j ≡ Some x → ⊥)
+        → (i j : ℕ) (y : X) → slice_get (xs ++ x ∷ []) i ≡ Some y → slice_get (xs ++ x ∷ []) j ≡ Some y → i ≡ j
+    once_more xs x alone absent i j y h l =
+        elim (get_push_cases xs x i y h) [
+          | inl oldi ↦ elim (get_push_cases xs x j y l) [
+            | inl oldj ↦ alone i j y oldi oldj
+            | inr newj ↦ absurd (absent i (oldi ∙ ap Some newj.1))
+          ]
+          | inr newi ↦ elim (get_push_cases xs x j y l) [
+            | inl oldj ↦ absurd (absent j (oldj ∙ ap Some newi.1))
+            | inr newj ↦ newi.0 ∙ sym newj.0
+          ]
+        ]
 
 -- ---- one more formula
 
-module _ (atoms atoms' : List Atomic) (es : List (Shape × Counts)) (ps : List Formula) (s : Shape) (c : Counts) (k : Keeps atoms es ps)
-    (grown : (i : ℕ) (t : Shape) → PointsBelow atoms i t → PointsBelow atoms' i t × (spelled atoms' ps t ≡ spelled atoms ps t))
-    (here : PointsBelow atoms' (length es) s)
-    (absent : (i : ℕ) → slice_get ps i ≡ Some (spelled atoms' ps s) → ⊥)
-    (counted : c ≡ counts_of (spelled atoms' ps s))
-    (alone : (i j : ℕ) (a : Atomic) → slice_get atoms' i ≡ Some a → slice_get atoms' j ≡ Some a → i ≡ j)
-    (atoms_are : atoms_of (ps ++ spelled atoms' ps s ∷ []) ≡ atoms') where
-  abbrev q : Formula
-  q = spelled atoms' ps s
+take_front : {X : Type 0} (xs ys : List X) (i : ℕ) → i ≤ length xs → take i (xs ++ ys) ≡ take i xs
+take_front [] ys zero h = refl
+take_front [] ys (suc i) h = absurd (omega arith)
+take_front (x ∷ xs) ys zero h = refl
+take_front (x ∷ xs) ys (suc i) h = ap (λ zs. x ∷ zs) (take_front xs ys i (omega arith))
 
-  Cases : ℕ → Shape × Counts → Type 0
-  Cases i e = ((slice_get es i ≡ Some e) × PointsBelow atoms' i e.0 × (spelled atoms' (ps ++ q ∷ []) e.0 ≡ spelled atoms ps e.0)) ⊎ ((i ≡ length es) × (e ≡ (s, c)))
+module _ (maps : List Mapping) (es : List (Shape × Noted)) (ps : List (Formula Interned)) (s : Shape) (c : Noted) (k : Keeps maps es ps)
+    (here : PointsBelow maps (length es) s)
+    (absent : (i : ℕ) → slice_get ps i ≡ Some (spelled maps ps s) → ⊥)
+    (counted : c.counts ≡ counts_of (spelled maps ps s))
+    (before : c.atoms ≡ length (atoms_of ps)) where
+  abbrev q : Formula Interned
+  q = spelled maps ps s
 
-  same_here : spelled atoms' (ps ++ q ∷ []) s ≡ q
-  same_here = spelled-push atoms' ps q (length es) s here (omega (arith, k.long))
+  Cases : ℕ → Shape × Noted → Type 0
+  Cases i e = ((slice_get es i ≡ Some e) × (spelled maps (ps ++ q ∷ []) e.0 ≡ spelled maps ps e.0)) ⊎ ((i ≡ length es) × (e ≡ (s, c)))
 
-  cases : (i : ℕ) (e : Shape × Counts) → slice_get (es ++ (s, c) ∷ []) i ≡ Some e → Cases i e
+  same_here : spelled maps (ps ++ q ∷ []) s ≡ q
+  same_here = spelled-push maps ps q (length es) s here (omega (arith, k.long))
+
+  cases : (i : ℕ) (e : Shape × Noted) → slice_get (es ++ (s, c) ∷ []) i ≡ Some e → Cases i e
   unfolding Cases
   cases i e h =
       elim (get_push_cases es (s, c) i e h) [
-        | inl old ↦ inl (old, (grown i e.0 (k.below i e old)).0, spelled-push atoms' ps q i e.0 (grown i e.0 (k.below i e old)).0 (omega (arith, k.long, get_below es i e old)) ∙ (grown i e.0 (k.below i e old)).1)
+        | inl old ↦ inl (old, spelled-push maps ps q i e.0 (k.below i e old) (omega (arith, k.long, get_below es i e old)))
         | inr new ↦ inr new
       ]
 
-  below_of : (i : ℕ) (e : Shape × Counts) → Cases i e → PointsBelow atoms' i e.0
+  below_of : (i : ℕ) (e : Shape × Noted) → Cases i e → PointsBelow maps i e.0
   unfolding Cases
-  below_of i e (inl old) = old.1
-  below_of i e (inr new) = subst (λ (t : Shape × Counts). PointsBelow atoms' i t.0) (sym new.1) (subst (λ (j : ℕ). PointsBelow atoms' j s) (sym new.0) here)
+  below_of i e (inl old) = k.below i e old.0
+  below_of i e (inr new) = subst (λ (t : Shape × Noted). PointsBelow maps i t.0) (sym new.1) (subst (λ (j : ℕ). PointsBelow maps j s) (sym new.0) here)
 
-  spells_of : (i : ℕ) (e : Shape × Counts) → Cases i e → slice_get (ps ++ q ∷ []) i ≡ Some (spelled atoms' (ps ++ q ∷ []) e.0)
+  spells_of : (i : ℕ) (e : Shape × Noted) → Cases i e → slice_get (ps ++ q ∷ []) i ≡ Some (spelled maps (ps ++ q ∷ []) e.0)
   unfolding Cases
-  spells_of i e (inl old) = get_front ps (q ∷ []) i (spelled atoms ps e.0) (k.spells i e old.0) ∙ ap Some (sym old.2)
+  spells_of i e (inl old) = get_front ps (q ∷ []) i (spelled maps ps e.0) (k.spells i e old.0) ∙ ap Some (sym old.1)
   spells_of i e (inr new) =
-      ap (λ (j : ℕ). slice_get (ps ++ q ∷ []) j) (new.0 ∙ sym k.long) ∙ get_last ps q ∙ ap Some (sym same_here) ∙ ap (λ (t : Shape × Counts). Some (spelled atoms' (ps ++ q ∷ []) t.0)) (sym new.1)
+      ap (λ (j : ℕ). slice_get (ps ++ q ∷ []) j) (new.0 ∙ sym k.long) ∙ get_last ps q ∙ ap Some (sym same_here) ∙ ap (λ (t : Shape × Noted). Some (spelled maps (ps ++ q ∷ []) t.0)) (sym new.1)
 
-  counted_of : (i : ℕ) (e : Shape × Counts) → Cases i e → e.1 ≡ counts_of (spelled atoms' (ps ++ q ∷ []) e.0)
+  counted_of : (i : ℕ) (e : Shape × Noted) → Cases i e → e.1.counts ≡ counts_of (spelled maps (ps ++ q ∷ []) e.0)
   unfolding Cases
-  counted_of i e (inl old) = k.counted i e old.0 ∙ ap counts_of (sym old.2)
+  counted_of i e (inl old) = k.counted i e old.0 ∙ ap counts_of (sym old.1)
   counted_of i e (inr new) =
-      ap (λ (t : Shape × Counts). t.1) new.1 ∙ counted ∙ ap counts_of (sym same_here) ∙ ap (λ (t : Shape × Counts). counts_of (spelled atoms' (ps ++ q ∷ []) t.0)) (sym new.1)
+      ap (λ (t : Shape × Noted). t.1.counts) new.1 ∙ counted ∙ ap counts_of (sym same_here) ∙ ap (λ (t : Shape × Noted). counts_of (spelled maps (ps ++ q ∷ []) t.0)) (sym new.1)
 
-  alone_of : (i j : ℕ) (p : Formula) → slice_get (ps ++ q ∷ []) i ≡ Some p → slice_get (ps ++ q ∷ []) j ≡ Some p → i ≡ j
+  before_of : (i : ℕ) (e : Shape × Noted) → Cases i e → e.1.atoms ≡ length (atoms_of (take i (ps ++ q ∷ [])))
+  unfolding Cases
+  before_of i e (inl old) = k.before i e old.0 ∙ ap (λ (qs : List (Formula Interned)). length (atoms_of qs)) (sym (take_front ps (q ∷ []) i (omega (arith, k.long, get_below es i e old.0))))
+  before_of i e (inr new) =
+      ap (λ (t : Shape × Noted). t.1.atoms) new.1 ∙ before
+      ∙ ap (λ (qs : List (Formula Interned)). length (atoms_of qs)) (sym (ap (λ (j : ℕ). take j (ps ++ q ∷ [])) (new.0 ∙ sym k.long) ∙ take_front ps (q ∷ []) (length ps) (omega arith) ∙ take_all (length ps) ps (omega arith)))
+
+  alone_of : (i j : ℕ) (p : Formula Interned) → slice_get (ps ++ q ∷ []) i ≡ Some p → slice_get (ps ++ q ∷ []) j ≡ Some p → i ≡ j
   alone_of i j p h l =
       elim (get_push_cases ps q i p h) [
         | inl oldi ↦ elim (get_push_cases ps q j p l) [
@@ -127,334 +166,338 @@ module _ (atoms atoms' : List Atomic) (es : List (Shape × Counts)) (ps : List F
         ]
       ]
 
-  pub Keeps-push : Keeps atoms' (es ++ (s, c) ∷ []) (ps ++ spelled atoms' ps s ∷ [])
+  Keeps-push : Keeps maps (es ++ (s, c) ∷ []) (ps ++ spelled maps ps s ∷ [])
   Keeps-push = record {
     long = omega (arith, k.long, length-append ps (q ∷ []), length-append es ((s, c) ∷ []));
     below = λ i e h. below_of i e (cases i e h);
     spells = λ i e h. spells_of i e (cases i e h);
     counted = λ i e h. counted_of i e (cases i e h);
+    before = λ i e h. before_of i e (cases i e h);
     alone = alone_of;
-    atoms_alone = alone;
-    atoms_are = atoms_are;
+    maps_alone = k.maps_alone;
   }
 
 -- ---- a formula's operands are smaller
 
-abbrev pub connectives : Formula → ℕ
+abbrev pub connectives : {A : Type 0} → Formula A → ℕ
 connectives (Atom a) = 0
 connectives (And p q) = 1 + connectives p + connectives q
 connectives (Or p q) = 1 + connectives p + connectives q
 
 -- ---- a shape and its formula are found at one number
 
-numbers_same : (atoms : List Atomic) (es : List (Shape × Counts)) (ps : List Formula) → Keeps atoms es ps → (f g : ℕ) → f < length ps → g < length ps → formula_at ps (id f) ≡ formula_at ps (id g) → f ≡ g
-numbers_same atoms es ps k f g hf hg e =
-    k.alone f g (formula_at ps (id g)) (get_is ps f (Atom no_atom) hf ∙ ap Some e) (get_is ps g (Atom no_atom) hg)
+abbrev atom_of : NodeId → Mapping → Interned
+atom_of n o = record { node = n; mapping = o }
 
-atoms_same : (atoms : List Atomic) (es : List (Shape × Counts)) (ps : List Formula) → Keeps atoms es ps → (n m : ℕ) → n < length atoms → m < length atoms → get_or atoms n no_atom ≡ get_or atoms m no_atom → n ≡ m
-atoms_same atoms es ps k n m hn hm e =
-    k.atoms_alone n m (get_or atoms m no_atom) (get_is atoms n no_atom hn ∙ ap Some e) (get_is atoms m no_atom hm)
+module _ (maps : List Mapping) (es : List (Shape × Noted)) (ps : List (Formula Interned)) (k : Keeps maps es ps) where
+  numbers_same : (f g : ℕ) → f < length ps → g < length ps → formula_at ps (id f) ≡ formula_at ps (id g) → f ≡ g
+  numbers_same f g hf hg e = k.alone f g (formula_at ps (id g)) (get_is ps f (Atom no_atom) hf ∙ ap Some e) (get_is ps g (Atom no_atom) hg)
 
-spelled-same : (atoms : List Atomic) (es : List (Shape × Counts)) (ps : List Formula) → Keeps atoms es ps → (i j : ℕ) (s t : Shape) → i ≤ length es → j ≤ length es
-    → PointsBelow atoms i s → PointsBelow atoms j t → spelled atoms ps s ≡ spelled atoms ps t → s ≡ t
-spelled-same atoms es ps k i j (shape.Atom n) (shape.Atom m) li lj h l e =
-    let a : get_or atoms n no_atom ≡ get_or atoms m no_atom = cc in
-    ap shape.Atom (atoms_same atoms es ps k n m h l a)
-spelled-same atoms es ps k i j (shape.Atom n) (shape.And f g) li lj h l e = absurd cc
-spelled-same atoms es ps k i j (shape.Atom n) (shape.Or f g) li lj h l e = absurd cc
-spelled-same atoms es ps k i j (shape.And f g) (shape.Atom m) li lj h l e = absurd cc
-spelled-same atoms es ps k i j (shape.And f g) (shape.And f' g') li lj h l e =
-    let a : formula_at ps (id f) ≡ formula_at ps (id f') = cc in
-    let b : formula_at ps (id g) ≡ formula_at ps (id g') = cc in
-    λ x. shape.And (numbers_same atoms es ps k f f' (omega (arith, k.long, h.0)) (omega (arith, k.long, l.0)) a x) (numbers_same atoms es ps k g g' (omega (arith, k.long, h.1)) (omega (arith, k.long, l.1)) b x)
-spelled-same atoms es ps k i j (shape.And f g) (shape.Or f' g') li lj h l e = absurd cc
-spelled-same atoms es ps k i j (shape.Or f g) (shape.Atom m) li lj h l e = absurd cc
-spelled-same atoms es ps k i j (shape.Or f g) (shape.And f' g') li lj h l e = absurd cc
-spelled-same atoms es ps k i j (shape.Or f g) (shape.Or f' g') li lj h l e =
-    let a : formula_at ps (id f) ≡ formula_at ps (id f') = cc in
-    let b : formula_at ps (id g) ≡ formula_at ps (id g') = cc in
-    λ x. shape.Or (numbers_same atoms es ps k f f' (omega (arith, k.long, h.0)) (omega (arith, k.long, l.0)) a x) (numbers_same atoms es ps k g g' (omega (arith, k.long, h.1)) (omega (arith, k.long, l.1)) b x)
+  maps_same : (n m : ℕ) → n < length maps → m < length maps → get_or maps n [] ≡ get_or maps m [] → n ≡ m
+  maps_same n m hn hm e = k.maps_alone n m (get_or maps m []) (get_is maps n [] hn ∙ ap Some e) (get_is maps m [] hm)
 
-key_of : (es : List (Shape × Counts)) (i : ℕ) (e : Shape × Counts) → slice_get es i ≡ Some e → slice_get (keys_of es) i ≡ Some e.0
-key_of [] i e h = absurd cc
-key_of (d ∷ es) zero e h =
-    let same : d ≡ e = cc in
-    ap (λ (t : Shape × Counts). Some t.0) same
-key_of (d ∷ es) (suc i) e h = key_of es i e h
+  spelled-same : (i j : ℕ) (s t : Shape) → i ≤ length es → j ≤ length es → PointsBelow maps i s → PointsBelow maps j t → spelled maps ps s ≡ spelled maps ps t → s ≡ t
+  spelled-same i j (shape.Atom n m) (shape.Atom n' m') li lj h l e =
+      let r : atom_of n (get_or maps m []) ≡ atom_of n' (get_or maps m' []) = cc in
+      λ x. shape.Atom (r x).node (maps_same m m' h l (ap (λ (a : Interned). a.mapping) r) x)
+  spelled-same i j (shape.Atom n m) (shape.And f g) li lj h l e = absurd cc
+  spelled-same i j (shape.Atom n m) (shape.Or f g) li lj h l e = absurd cc
+  spelled-same i j (shape.And f g) (shape.Atom n m) li lj h l e = absurd cc
+  spelled-same i j (shape.And f g) (shape.And f' g') li lj h l e =
+      let a : formula_at ps (id f) ≡ formula_at ps (id f') = cc in
+      let b : formula_at ps (id g) ≡ formula_at ps (id g') = cc in
+      λ x. shape.And (numbers_same f f' (omega (arith, k.long, h.0)) (omega (arith, k.long, l.0)) a x) (numbers_same g g' (omega (arith, k.long, h.1)) (omega (arith, k.long, l.1)) b x)
+  spelled-same i j (shape.And f g) (shape.Or f' g') li lj h l e = absurd cc
+  spelled-same i j (shape.Or f g) (shape.Atom n m) li lj h l e = absurd cc
+  spelled-same i j (shape.Or f g) (shape.And f' g') li lj h l e = absurd cc
+  spelled-same i j (shape.Or f g) (shape.Or f' g') li lj h l e =
+      let a : formula_at ps (id f) ≡ formula_at ps (id f') = cc in
+      let b : formula_at ps (id g) ≡ formula_at ps (id g') = cc in
+      λ x. shape.Or (numbers_same f f' (omega (arith, k.long, h.0)) (omega (arith, k.long, l.0)) a x) (numbers_same g g' (omega (arith, k.long, h.1)) (omega (arith, k.long, l.1)) b x)
 
-keys_of-push : (es : List (Shape × Counts)) (s : Shape) (c : Counts) → keys_of (es ++ (s, c) ∷ []) ≡ keys_of es ++ s ∷ []
+  -- the shape of a formula that the table has
+  spelled_key : (s : Shape) → PointsBelow maps (length es) s → (j : ℕ) → slice_get ps j ≡ Some (spelled maps ps s) → slice_get (keys_of es) j ≡ Some s
+  spelled_key s below j h =
+      let none : Noted = record { counts = record { dnf = 0; cnf = 0; atoms = 0 }; atoms = 0 } in
+      let lt : j < length es = omega (arith, k.long, get_below ps j (spelled maps ps s) h) in
+      let e = get_or es j (s, none) in
+      let at : slice_get es j ≡ Some e = get_is es j (s, none) lt in
+      let both : spelled maps ps e.0 ≡ spelled maps ps s = some_same (sym (k.spells j e at) ∙ h) in
+      key_of es j e at ∙ ap Some (spelled-same j (length es) e.0 s (omega arith) (omega arith) (k.below j e at) below both)
+    where
+      some_same : {x y : Formula Interned} → Some x ≡ Some y → x ≡ y
+      some_same e = cc
+
+      key_of : (es : List (Shape × Noted)) (i : ℕ) (e : Shape × Noted) → slice_get es i ≡ Some e → slice_get (keys_of es) i ≡ Some e.0
+      key_of [] i e h = absurd cc
+      key_of (d ∷ es) zero e h =
+          let same : d ≡ e = cc in
+          ap (λ (t : Shape × Noted). Some t.0) same
+      key_of (d ∷ es) (suc i) e h = key_of es i e h
+
+keys_of-push : (es : List (Shape × Noted)) (s : Shape) (c : Noted) → keys_of (es ++ (s, c) ∷ []) ≡ keys_of es ++ s ∷ []
 keys_of-push [] s c = refl
 keys_of-push (e ∷ es) s c = ap (λ (ks : List Shape). e.0 ∷ ks) (keys_of-push es s c)
 
--- no formula of the table is spelled by a shape that the table has not
-not_spelled : (atoms : List Atomic) (es : List (Shape × Counts)) (ps : List Formula) → Keeps atoms es ps → (s : Shape) → PointsBelow atoms (length es) s
-    → ((j : ℕ) → slice_get (keys_of es) j ≡ Some s → ⊥) → (j : ℕ) → slice_get ps j ≡ Some (spelled atoms ps s) → ⊥
-not_spelled atoms es ps k s below none j h =
-    let lt : j < length es = omega (arith, k.long, get_below ps j (spelled atoms ps s) h) in
-    let e = get_or es j (s, record { dnf = 0; cnf = 0; atoms = 0 }) in
-    let at : slice_get es j ≡ Some e = get_is es j (s, record { dnf = 0; cnf = 0; atoms = 0 }) lt in
-    let both : spelled atoms ps e.0 ≡ spelled atoms ps s = some_same (sym (k.spells j e at) ∙ h) in
-    let same : e.0 ≡ s = spelled-same atoms es ps k j (length es) e.0 s (omega arith) (omega arith) (k.below j e at) below both in
-    none j (key_of es j e at ∙ ap Some same)
-  where
-    some_same : {x y : Formula} → Some x ≡ Some y → x ≡ y
-    some_same e = cc
+-- ---- how many atoms there are
 
--- ---- membership
+abbrev IsAtom : Formula Interned → ℕ
+IsAtom (Atom a) = 1
+IsAtom (And p q) = 0
+IsAtom (Or p q) = 0
 
-found : (ps : List Formula) (i : ℕ) (p : Formula) → slice_get ps i ≡ Some p → list_any (same_formula p) ps ≡ true
-found [] i p h = absurd cc
-found (q ∷ ps) zero p h =
-    let same : p ≡ q = cc in
-    or_left (same_formula p q) (list_any (same_formula p) ps) ((same_formula-Decides p q).1 same)
-found (q ∷ ps) (suc i) p h = or_right (same_formula p q) (list_any (same_formula p) ps) (found ps i p h)
+atoms-push : (ps : List (Formula Interned)) (p : Formula Interned) → length (atoms_of (ps ++ p ∷ [])) ≡ length (atoms_of ps) + IsAtom p
+atoms-push [] (Atom a) = refl
+atoms-push [] (And p q) = refl
+atoms-push [] (Or p q) = refl
+atoms-push (Atom b ∷ ps) p = omega (arith, atoms-push ps p)
+atoms-push (And r s ∷ ps) p = atoms-push ps p
+atoms-push (Or r s ∷ ps) p = atoms-push ps p
 
-found_at : (ps : List Formula) (p : Formula) → list_any (same_formula p) ps ≡ true → (i : ℕ) × (slice_get ps i ≡ Some p)
-found_at [] p h = absurd (true≢false (sym h))
-found_at (q ∷ ps) p h =
-    elim (or_cases (same_formula p q) (list_any (same_formula p) ps) h) [
-      | inl here ↦ (0, ap Some (sym ((same_formula-Decides p q).0 here)))
-      | inr later ↦ let r = found_at ps p later in (suc r.0, r.1)
-    ]
+pub atoms_fit : (ps : List (Formula Interned)) → length (atoms_of ps) ≤ length ps
+atoms_fit [] = omega arith
+atoms_fit (Atom a ∷ ps) = omega (arith, atoms_fit ps)
+atoms_fit (And p q ∷ ps) = omega (arith, atoms_fit ps)
+atoms_fit (Or p q ∷ ps) = omega (arith, atoms_fit ps)
 
-with_present : (ps : List Formula) (i : ℕ) (p : Formula) → slice_get ps i ≡ Some p → with_formula ps p ≡ ps
-with_present ps i p h = ap (λ (b : Bool). cond b ps (ps ++ p ∷ [])) (found ps i p h)
-
-with_absent : (ps : List Formula) (p : Formula) → ((i : ℕ) → slice_get ps i ≡ Some p → ⊥) → with_formula ps p ≡ ps ++ p ∷ []
-with_absent ps p h =
-    elim (either (list_any (same_formula p) ps)) [
-      | inl there ↦ absurd (h (found_at ps p there).0 (found_at ps p there).1)
-      | inr not_there ↦ ap (λ (b : Bool). cond b ps (ps ++ p ∷ [])) not_there
-    ]
-
-pub Grows-same : (ps qs : List Formula) → qs ≡ ps → Grows ps qs
-Grows-same ps qs e = subst (Grows ps) (sym e) (record { longer = omega arith; same = λ i p h. h })
-
-Grows-push : (ps : List Formula) (q : Formula) → Grows ps (ps ++ q ∷ [])
-Grows-push ps q = record { longer = omega (arith, length-append ps (q ∷ [])); same = λ i p h. get_front ps (q ∷ []) i p h }
-
-Grows-with : (ps : List Formula) (q : Formula) → Grows ps (with_formula ps q)
-Grows-with ps q =
-    elim (either (list_any (same_formula q) ps)) [
-      | inl there ↦ Grows-same ps (with_formula ps q) (ap (λ (b : Bool). cond b ps (ps ++ q ∷ [])) there)
-      | inr absent ↦ subst (Grows ps) (ap (λ (b : Bool). cond b ps (ps ++ q ∷ [])) (sym absent)) (Grows-push ps q)
-    ]
+-- an atom's number is how many stand before it
+atom_at : (ps : List (Formula Interned)) (i : ℕ) (a : Interned) → slice_get ps i ≡ Some (Atom a) → slice_get (atoms_of ps) (length (atoms_of (take i ps))) ≡ Some a
+atom_at [] i a h = absurd cc
+atom_at (Atom b ∷ ps) zero a h =
+    let same : b ≡ a = cc in
+    ap Some same
+atom_at (And p q ∷ ps) zero a h = absurd cc
+atom_at (Or p q ∷ ps) zero a h = absurd cc
+atom_at (Atom b ∷ ps) (suc i) a h = atom_at ps i a h
+atom_at (And p q ∷ ps) (suc i) a h = atom_at ps i a h
+atom_at (Or p q ∷ ps) (suc i) a h = atom_at ps i a h
 
 -- ---- what a call that makes a formula leaves
 
-pub record Added (atoms : List Atomic) (es : List (Shape × Counts)) (ps : List Formula) (p : Formula) (i : ℕ) : Type 0 where
-  pub kept : Keeps atoms es (formulas_of atoms (keys_of es))
-  pub number : IsNumberOf (formulas_of atoms (keys_of es)) (id i) p
-  pub is : formulas_of atoms (keys_of es) ≡ with_formula ps p
+pub record Added (maps : List Mapping) (es : List (Shape × Noted)) (ps : List (Formula Interned)) (p : Formula Interned) (old i : ℕ) : Type 0 where
+  pub kept : Keeps maps es (formulas_of maps (keys_of es))
+  pub number : IsNumberOf (formulas_of maps (keys_of es)) i p
+  pub is : formulas_of maps (keys_of es) ≡ put same_stored ps p
+  pub atoms : ((i ≡ old) × (length (atoms_of (formulas_of maps (keys_of es))) ≡ length (atoms_of ps) + IsAtom p)) ⊎ ((i < old) × (length (atoms_of (formulas_of maps (keys_of es))) ≡ length (atoms_of ps)))
 
-Added-present : (atoms : List Atomic) (es : List (Shape × Counts)) (ps : List Formula) (s : Shape) (i : ℕ) → formulas_of atoms (keys_of es) ≡ ps → Keeps atoms es ps
-    → slice_get (keys_of es) i ≡ Some s → Added atoms es ps (spelled atoms ps s) i
-Added-present atoms es ps s i view k h =
-    let e = keys_at es i s h in
-    let at : slice_get ps i ≡ Some (spelled atoms ps s) = k.spells i (s, e.0) e.1 in
-    record {
-      kept = subst (Keeps atoms es) (sym view) k;
-      number = subst (λ (qs : List Formula). IsNumberOf qs (id i) (spelled atoms ps s)) (sym view) (record { has = get_below ps i (spelled atoms ps s) at; at = at; alone = λ g l. k.alone g i (spelled atoms ps s) l at });
-      is = view ∙ sym (with_present ps i (spelled atoms ps s) at);
-    }
+module _ (maps : List Mapping) (es : List (Shape × Noted)) (ps : List (Formula Interned)) (s : Shape) (view : formulas_of maps (keys_of es) ≡ ps) (k : Keeps maps es ps) (below : PointsBelow maps (length es) s) where
+  Added-present : (i : ℕ) → slice_get (keys_of es) i ≡ Some s → Added maps es ps (spelled maps ps s) (length es) i
+  Added-present i h =
+      let e = keys_at es i s h in
+      let at : slice_get ps i ≡ Some (spelled maps ps s) = k.spells i (s, e.0) e.1 in
+      record {
+        kept = subst (Keeps maps es) (sym view) k;
+        number = subst (λ (qs : List (Formula Interned)). IsNumberOf qs i (spelled maps ps s)) (sym view) (number_from_get ps i (spelled maps ps s) (once_from_get ps k.alone) at);
+        is = view ∙ sym (put_at same_stored same_stored-Decides ps (spelled maps ps s) i at);
+        atoms = inr (get_below es i (s, e.0) e.1, ap (λ (qs : List (Formula Interned)). length (atoms_of qs)) view);
+      }
 
-Added-new : (atoms atoms' : List Atomic) (es : List (Shape × Counts)) (ps : List Formula) (s : Shape) (c : Counts) (i : ℕ) → formulas_of atoms' (keys_of es) ≡ ps → i ≡ length ps
-    → ((j : ℕ) → slice_get ps j ≡ Some (spelled atoms' ps s) → ⊥)
-    → Keeps atoms' (es ++ (s, c) ∷ []) (ps ++ spelled atoms' ps s ∷ [])
-    → Added atoms' (es ++ (s, c) ∷ []) ps (spelled atoms' ps s) i
-Added-new atoms atoms' es ps s c i view end absent k =
-    let q = spelled atoms' ps s in
-    let made : formulas_of atoms' (keys_of (es ++ (s, c) ∷ [])) ≡ ps ++ q ∷ [] =
-    ap (formulas_of atoms') (keys_of-push es s c) ∙ formulas_of-push atoms' (keys_of es) s ∙ (λ j. view j ++ spelled atoms' (view j) s ∷ []) in
-    let at : slice_get (ps ++ q ∷ []) i ≡ Some q = ap (slice_get (ps ++ q ∷ [])) end ∙ get_last ps q in
-    record {
-      kept = subst (Keeps atoms' (es ++ (s, c) ∷ [])) (sym made) k;
-      number = subst (λ (qs : List Formula). IsNumberOf qs (id i) q) (sym made) (record { has = get_below (ps ++ q ∷ []) i q at; at = at; alone = λ g l. k.alone g i q l at });
-      is = made ∙ sym (with_absent ps q absent);
-    }
+  module _ (c : Noted) (counted : c.counts ≡ counts_of (spelled maps ps s)) (before : c.atoms ≡ length (atoms_of ps)) where
+    Added-new : (i : ℕ) → i ≡ length es → ((j : ℕ) → slice_get (keys_of es) j ≡ Some s → ⊥) → Added maps (es ++ (s, c) ∷ []) ps (spelled maps ps s) (length es) i
+    Added-new i end none =
+        let q = spelled maps ps s in
+        let absent : (j : ℕ) → slice_get ps j ≡ Some q → ⊥ = λ j h. none j (spelled_key maps es ps k s below j h) in
+        let kept = Keeps-push maps es ps s c k below absent counted before in
+        let made : formulas_of maps (keys_of (es ++ (s, c) ∷ [])) ≡ ps ++ q ∷ [] = ap (formulas_of maps) (keys_of-push es s c) ∙ formulas_of-push maps (keys_of es) s ∙ (λ j. view j ++ spelled maps (view j) s ∷ []) in
+        let at : slice_get (ps ++ q ∷ []) i ≡ Some q = ap (slice_get (ps ++ q ∷ [])) (end ∙ sym k.long) ∙ get_last ps q in
+        record {
+          kept = subst (Keeps maps (es ++ (s, c) ∷ [])) (sym made) kept;
+          number = subst (λ (qs : List (Formula Interned)). IsNumberOf qs i q) (sym made) (number_from_get (ps ++ q ∷ []) i q (once_from_get (ps ++ q ∷ []) kept.alone) at);
+          is = made ∙ sym (put_last same_stored same_stored-Decides ps q absent);
+          atoms = inl (end, ap (λ (qs : List (Formula Interned)). length (atoms_of qs)) made ∙ atoms-push ps q);
+        }
 
--- a conjunction or a disjunction
-module _ (atoms : List Atomic) (es es' : List (Shape × Counts)) (ps : List Formula) (s : Shape) (c : Counts) (view : formulas_of atoms (keys_of es) ≡ ps) (k : Keeps atoms es ps)
-    (below : PointsBelow atoms (length es) s) (counted : c ≡ counts_of (spelled atoms ps s)) (compound : atoms_of (ps ++ spelled atoms ps s ∷ []) ≡ atoms_of ps) where
-  pub Added-joined : (i : ℕ) → Places es es' s c i → Added atoms es' ps (spelled atoms ps s) i
-  Added-joined i (inl there) = subst (λ (ds : List (Shape × Counts)). Added atoms ds ps (spelled atoms ps s) i) (sym there.1) (Added-present atoms es ps s i view k there.0)
-  Added-joined i (inr new) =
-      let absent = not_spelled atoms es ps k s below new.0 in
-      subst (λ (ds : List (Shape × Counts)). Added atoms ds ps (spelled atoms ps s) i) (sym new.1)
-      (Added-new atoms atoms es ps s c i view (new.2 ∙ sym k.long) absent (Keeps-push atoms atoms es ps s c k (λ j t h. (h, refl)) below absent counted k.atoms_alone (compound ∙ k.atoms_are)))
+    pub Added-placed : (es' : List (Shape × Noted)) (i : ℕ) → Places es es' s c i → Added maps es' ps (spelled maps ps s) (length es) i
+    Added-placed es' i (inl there) = subst (λ (ds : List (Shape × Noted)). Added maps ds ps (spelled maps ps s) (length es) i) (sym there.1) (Added-present i there.0)
+    Added-placed es' i (inr new) = subst (λ (ds : List (Shape × Noted)). Added maps ds ps (spelled maps ps s) (length es) i) (sym new.1) (Added-new i new.2 new.0)
 
-  pub kept_joined : (r : Result FormulaId Stop) → IfOk r (λ f. Places es es' s c f.0) → OnErr r (es' ≡ es) → Keeps atoms es' (formulas_of atoms (keys_of es'))
-  kept_joined (Ok f) ok err = (Added-joined f.0 ok).kept
-  kept_joined (Err e) ok err = subst (λ (ds : List (Shape × Counts)). Keeps atoms ds (formulas_of atoms (keys_of ds))) (sym err) (subst (Keeps atoms es) (sym view) k)
+-- ---- a conjunction or a disjunction
 
-  pub number_joined : (r : Result FormulaId Stop) → IfOk r (λ f. Places es es' s c f.0) → IfOk r (λ f. IsNumberOf (formulas_of atoms (keys_of es')) f (spelled atoms ps s))
-  number_joined (Ok f) ok = (Added-joined f.0 ok).number
+module _ (maps : List Mapping) (es es' : List (Shape × Noted)) (n : ℕ) (ps : List (Formula Interned)) (s : Shape) (c : Noted) (view : formulas_of maps (keys_of es) ≡ ps) (t : IsTable maps es n)
+    (below : PointsBelow maps (length es) s) (counted : c.counts ≡ counts_of (spelled maps ps s)) (before : c.atoms ≡ n) (compound : IsAtom (spelled maps ps s) ≡ 0) where
+  k : Keeps maps es ps
+  k = subst (Keeps maps es) view t.keeps
+
+  many : n ≡ length (atoms_of ps)
+  many = t.atoms_are ∙ ap (λ (qs : List (Formula Interned)). length (atoms_of qs)) view
+
+  added : (i : ℕ) → Places es es' s c i → Added maps es' ps (spelled maps ps s) (length es) i
+  added i p = Added-placed maps es ps s view k below c counted (before ∙ many) es' i p
+
+  same_count : (i : ℕ) → Added maps es' ps (spelled maps ps s) (length es) i → n ≡ length (atoms_of (formulas_of maps (keys_of es')))
+  same_count i a = elim a.atoms [ inl new ↦ omega (arith, new.1, many, compound) | inr old ↦ omega (arith, old.1, many) ]
+
+  pub kept_joined : (r : Result FormulaId Stop) → IfOk r (λ f. Places es es' s c f.0) → OnErr r (es' ≡ es) → IsTable maps es' n
+  kept_joined (Ok f) ok err = record { keeps = (added f.0 ok).kept; atoms_are = same_count f.0 (added f.0 ok) }
+  kept_joined (Err e) ok err = subst (λ (ds : List (Shape × Noted)). IsTable maps ds n) (sym err) t
+
+  pub number_joined : (r : Result FormulaId Stop) → IfOk r (λ f. Places es es' s c f.0) → IfOk r (λ f. IsNumberOf (formulas_of maps (keys_of es')) f.0 (spelled maps ps s))
+  number_joined (Ok f) ok = (added f.0 ok).number
   number_joined (Err e) ok = tt
 
-  pub is_joined : (r : Result FormulaId Stop) → IfOk r (λ f. Places es es' s c f.0) → OnOk r (formulas_of atoms (keys_of es') ≡ with_formula ps (spelled atoms ps s))
-  is_joined (Ok f) ok = (Added-joined f.0 ok).is
+  pub is_joined : (r : Result FormulaId Stop) → IfOk r (λ f. Places es es' s c f.0) → OnOk r (formulas_of maps (keys_of es') ≡ put same_stored ps (spelled maps ps s))
+  is_joined (Ok f) ok = (added f.0 ok).is
   is_joined (Err e) ok = tt
 
-  pub grows_joined : (r : Result FormulaId Stop) → IfOk r (λ f. Places es es' s c f.0) → OnErr r (es' ≡ es) → Grows ps (formulas_of atoms (keys_of es'))
-  grows_joined (Ok f) ok err = subst (Grows ps) (sym (Added-joined f.0 ok).is) (Grows-with ps (spelled atoms ps s))
-  grows_joined (Err e) ok err = Grows-same ps (formulas_of atoms (keys_of es')) (ap (λ (ds : List (Shape × Counts)). formulas_of atoms (keys_of ds)) err ∙ view)
+  pub grows_joined : (r : Result FormulaId Stop) → IfOk r (λ f. Places es es' s c f.0) → OnErr r (es' ≡ es) → Grows ps (formulas_of maps (keys_of es'))
+  grows_joined (Ok f) ok err = subst (Grows ps) (sym (added f.0 ok).is) (put_grows same_stored ps (spelled maps ps s))
+  grows_joined (Err e) ok err = subst (Grows ps) (sym (ap (λ (ds : List (Shape × Noted)). formulas_of maps (keys_of ds)) err ∙ view)) (grows_self ps)
 
--- ---- an atom that is made
+  pub there_joined : {P : Type 0} → ((j : ℕ) → slice_get (keys_of es) j ≡ Some s → P) → is_among same_stored ps (spelled maps ps s) ≡ true → P
+  there_joined ok there =
+      let at = get_among same_stored same_stored-Decides ps (spelled maps ps s) there in
+      ok at.0 (spelled_key maps es ps k s below at.0 at.1)
 
-atom_place : (ps : List Formula) (i : ℕ) (a : Atomic) → slice_get (atoms_of ps) i ≡ Some a → (g : ℕ) × (slice_get ps g ≡ Some (Atom a))
-atom_place [] i a h = absurd cc
-atom_place (Atom b ∷ ps) zero a h =
-    let same : b ≡ a = cc in
-    (0, ap (λ (x : Atomic). Some (Atom x)) same)
-atom_place (Atom b ∷ ps) (suc i) a h = let r = atom_place ps i a h in (suc r.0, r.1)
-atom_place (And p q ∷ ps) i a h = let r = atom_place ps i a h in (suc r.0, r.1)
-atom_place (Or p q ∷ ps) i a h = let r = atom_place ps i a h in (suc r.0, r.1)
+-- ---- an atom
 
-atom_among : (ps : List Formula) (j : ℕ) (a : Atomic) → slice_get ps j ≡ Some (Atom a) → (i : ℕ) × (slice_get (atoms_of ps) i ≡ Some a)
-atom_among [] j a h = absurd cc
-atom_among (Atom b ∷ ps) zero a h =
-    let same : b ≡ a = cc in
-    (0, ap Some same)
-atom_among (And p q ∷ ps) zero a h = absurd cc
-atom_among (Or p q ∷ ps) zero a h = absurd cc
-atom_among (Atom b ∷ ps) (suc j) a h = let r = atom_among ps j a h in (suc r.0, r.1)
-atom_among (And p q ∷ ps) (suc j) a h = atom_among ps j a h
-atom_among (Or p q ∷ ps) (suc j) a h = atom_among ps j a h
+-- with one more mapping, or none, the table is as before
+record More (maps' : List Mapping) (es : List (Shape × Noted)) (ps : List (Formula Interned)) (m : Mapping) (i : ℕ) : Type 0 where
+  pub view : formulas_of maps' (keys_of es) ≡ ps
+  pub kept : Keeps maps' es ps
+  pub at : slice_get maps' i ≡ Some m
 
-pub atoms_of-atom : (ps : List Formula) (a : Atomic) → atoms_of (ps ++ Atom a ∷ []) ≡ atoms_of ps ++ a ∷ []
-atoms_of-atom [] a = refl
-atoms_of-atom (Atom b ∷ ps) a = ap (λ (xs : List Atomic). b ∷ xs) (atoms_of-atom ps a)
-atoms_of-atom (And p q ∷ ps) a = atoms_of-atom ps a
-atoms_of-atom (Or p q ∷ ps) a = atoms_of-atom ps a
-
-pub atoms_of-and : (ps : List Formula) (p q : Formula) → atoms_of (ps ++ And p q ∷ []) ≡ atoms_of ps
-atoms_of-and [] p q = refl
-atoms_of-and (Atom b ∷ ps) p q = ap (λ (xs : List Atomic). b ∷ xs) (atoms_of-and ps p q)
-atoms_of-and (And r s ∷ ps) p q = atoms_of-and ps p q
-atoms_of-and (Or r s ∷ ps) p q = atoms_of-and ps p q
-
-pub atoms_of-or : (ps : List Formula) (p q : Formula) → atoms_of (ps ++ Or p q ∷ []) ≡ atoms_of ps
-atoms_of-or [] p q = refl
-atoms_of-or (Atom b ∷ ps) p q = ap (λ (xs : List Atomic). b ∷ xs) (atoms_of-or ps p q)
-atoms_of-or (And r s ∷ ps) p q = atoms_of-or ps p q
-atoms_of-or (Or r s ∷ ps) p q = atoms_of-or ps p q
-
-alone_atoms : (atoms : List Atomic) (a : Atomic) → ((i j : ℕ) (x : Atomic) → slice_get atoms i ≡ Some x → slice_get atoms j ≡ Some x → i ≡ j)
-    → ((j : ℕ) → slice_get atoms j ≡ Some a → ⊥) → (i j : ℕ) (x : Atomic) → slice_get (atoms ++ a ∷ []) i ≡ Some x → slice_get (atoms ++ a ∷ []) j ≡ Some x → i ≡ j
-alone_atoms atoms a alone absent i j x h l =
-    elim (get_push_cases atoms a i x h) [
-      | inl oldi ↦ elim (get_push_cases atoms a j x l) [
-        | inl oldj ↦ alone i j x oldi oldj
-        | inr newj ↦ absurd (absent i (oldi ∙ ap Some newj.1))
-      ]
-      | inr newi ↦ elim (get_push_cases atoms a j x l) [
-        | inl oldj ↦ absurd (absent j (oldj ∙ ap Some newi.1))
-        | inr newj ↦ newi.0 ∙ sym newj.0
-      ]
-    ]
-
-err_not_ok : (e : Stop) → IsOk {T = FormulaId} {E = Stop} (Err e) → ⊥
-err_not_ok e h = absurd (true≢false (sym h))
-
-module _ (atoms : List Atomic) (es es' : List (Shape × Counts)) (ps : List Formula) (a : Atomic) (n : ℕ) (c : Counts) (view : formulas_of atoms (keys_of es) ≡ ps) (k : Keeps atoms es ps) (one : c ≡ counts_of (Atom a)) where
-  -- the atom was there
-  Added-old : (i : ℕ) → slice_get atoms n ≡ Some a → Places es es' (shape.Atom n) c i → Added atoms es' ps (Atom a) i
-  Added-old i at (inl there) =
-      subst (λ (p : Formula). Added atoms es' ps p i) (ap Atom (get_or_is atoms n a no_atom at))
-      (subst (λ (ds : List (Shape × Counts)). Added atoms ds ps (spelled atoms ps (shape.Atom n)) i) (sym there.1) (Added-present atoms es ps (shape.Atom n) i view k there.0))
-  Added-old i at (inr new) =
-      let place = atom_place ps n a (ap (λ (xs : List Atomic). slice_get xs n) k.atoms_are ∙ at) in
-      absurd (not_spelled atoms es ps k (shape.Atom n) (get_below atoms n a at) new.0 place.0 (place.1 ∙ ap (λ (x : Atomic). Some (Atom x)) (sym (get_or_is atoms n a no_atom at))))
-
-  -- the atom is new
-  Added-fresh : (i : ℕ) → ((j : ℕ) → slice_get atoms j ≡ Some a → ⊥) → slice_get (atoms ++ a ∷ []) n ≡ Some a → Places es es' (shape.Atom n) c i → Added (atoms ++ a ∷ []) es' ps (Atom a) i
-  Added-fresh i absent at placed =
-      elim (get_push_cases atoms a n a at) [
-        | inl old ↦ absurd (absent n old)
-        | inr new ↦ elim placed [
-          | inl there ↦
-              let e = keys_at es i (shape.Atom n) there.0 in
-              absurd (omega (arith, k.below i (shape.Atom n, e.0) e.1, new.0))
-          | inr fresh ↦
-              let is : get_or (atoms ++ a ∷ []) n no_atom ≡ a = get_or_is (atoms ++ a ∷ []) n a no_atom at in
-              let missing : (j : ℕ) → slice_get ps j ≡ Some (Atom (get_or (atoms ++ a ∷ []) n no_atom)) → ⊥ =
-              λ j h.
-              let r = atom_among ps j a (h ∙ ap (λ (x : Atomic). Some (Atom x)) is) in
-              absent r.0 (ap (λ (xs : List Atomic). slice_get xs r.0) (sym k.atoms_are) ∙ r.1) in
-              let kept = Keeps-push atoms (atoms ++ a ∷ []) es ps (shape.Atom n) c k (λ j t h. (below-atom atoms a j t h, spelled-atom atoms a ps j t h)) (get_below (atoms ++ a ∷ []) n a at) missing
-              (one ∙ ap (λ (x : Atomic). counts_of (Atom x)) (sym is)) (alone_atoms atoms a k.atoms_alone absent)
-              (ap (λ (x : Atomic). atoms_of (ps ++ Atom x ∷ [])) is ∙ atoms_of-atom ps a ∙ ap (λ (xs : List Atomic). xs ++ a ∷ []) k.atoms_are) in
-              subst (λ (p : Formula). Added (atoms ++ a ∷ []) es' ps p i) (ap Atom is)
-              (subst (λ (ds : List (Shape × Counts)). Added (atoms ++ a ∷ []) ds ps (Atom (get_or (atoms ++ a ∷ []) n no_atom)) i) (sym fresh.1)
-              (Added-new atoms (atoms ++ a ∷ []) es ps (shape.Atom n) c i (formulas_of-atom atoms a es ps k ∙ view) (fresh.2 ∙ sym k.long) missing kept))
-        ]
+module _ (maps maps' : List Mapping) (es : List (Shape × Noted)) (n : ℕ) (ps : List (Formula Interned)) (view : formulas_of maps (keys_of es) ≡ ps) (t : IsTable maps es n) (m : Mapping) (i : ℕ) (puts : Puts maps maps' m i) where
+  more : More maps' es ps m i
+  more =
+      let k = subst (Keeps maps es) view t.keeps in
+      elim puts [
+        | inl there ↦ subst (λ (ms : List Mapping). More ms es ps m i) (sym there.1) (record { view = view; kept = k; at = there.0 })
+        | inr new ↦ subst (λ (ms : List Mapping). More ms es ps m i) (sym new.1) (record {
+          view = formulas_of-map maps m es ps k ∙ view;
+          kept = Keeps-map maps m es ps k new.0;
+          at = ap (slice_get (maps ++ m ∷ [])) new.2 ∙ get_last maps m;
+        })
       ]
 
-  module _ (atoms' : List Atomic) (inserts : Inserts atoms atoms' a n) where
-    Added-atom : (i : ℕ) → Places es es' (shape.Atom n) c i → Added atoms' es' ps (Atom a) i
-    Added-atom i placed =
-        elim inserts.new_is [
-          | inl same ↦ subst (λ (xs : List Atomic). Added xs es' ps (Atom a) i) (sym same) (Added-old i (ap (λ (xs : List Atomic). slice_get xs n) (sym same) ∙ inserts.at) placed)
-          | inr new ↦ subst (λ (xs : List Atomic). Added xs es' ps (Atom a) i) (sym new.1) (Added-fresh i new.0 (ap (λ (xs : List Atomic). slice_get xs n) (sym new.1) ∙ inserts.at) placed)
-        ]
+  pub view_more : formulas_of maps' (keys_of es) ≡ ps
+  view_more = more.view
 
-    pub kept_atom : (r : Result FormulaId Stop) → IsOk r → IfOk r (λ f. Places es es' (shape.Atom n) c f.0) → Keeps atoms' es' (formulas_of atoms' (keys_of es'))
-    kept_atom (Ok f) is_ok ok = (Added-atom f.0 ok).kept
-    kept_atom (Err e) is_ok ok = absurd (err_not_ok e is_ok)
+  many_atoms : n ≡ length (atoms_of ps)
+  many_atoms = t.atoms_are ∙ ap (λ (qs : List (Formula Interned)). length (atoms_of qs)) view
 
-    pub number_atom : (r : Result FormulaId Stop) → IfOk r (λ f. Places es es' (shape.Atom n) c f.0) → IfOk r (λ f. IsNumberOf (formulas_of atoms' (keys_of es')) f (Atom a))
-    number_atom (Ok f) ok = (Added-atom f.0 ok).number
-    number_atom (Err e) ok = tt
+  pub table_more : (es' : List (Shape × Noted)) → es' ≡ es → IsTable maps' es' n
+  table_more es' e =
+      subst (λ (ds : List (Shape × Noted)). IsTable maps' ds n) (sym e)
+      (record { keeps = subst (Keeps maps' es) (sym more.view) more.kept; atoms_are = many_atoms ∙ ap (λ (qs : List (Formula Interned)). length (atoms_of qs)) (sym more.view) })
 
-    pub is_atom : (r : Result FormulaId Stop) → IfOk r (λ f. Places es es' (shape.Atom n) c f.0) → OnOk r (formulas_of atoms' (keys_of es') ≡ with_formula ps (Atom a))
-    is_atom (Ok f) ok = (Added-atom f.0 ok).is
-    is_atom (Err e) ok = tt
+  pub few_atoms : n ≤ length es
+  few_atoms = omega (arith, many_atoms, atoms_fit ps, more.kept.long)
 
-    pub grows_atom : (r : Result FormulaId Stop) → IsOk r → IfOk r (λ f. Places es es' (shape.Atom n) c f.0) → Grows ps (formulas_of atoms' (keys_of es'))
-    grows_atom (Ok f) is_ok ok = subst (Grows ps) (sym (Added-atom f.0 ok).is) (Grows-with ps (Atom a))
-    grows_atom (Err e) is_ok ok = absurd (err_not_ok e is_ok)
+  module _ (node : NodeId) where
+    abbrev p : Formula Interned
+    p = Atom (record { node = node; mapping = m })
+
+    spells_p : spelled maps' ps (shape.Atom node i) ≡ p
+    spells_p = ap (λ (o : Mapping). Atom (record { node = node; mapping = o })) (get_or_is maps' i m [] more.at)
+
+    below : PointsBelow maps' (length es) (shape.Atom node i)
+    below = get_below maps' i m more.at
+
+    pub there_atom : {P : Type 0} → ((j : ℕ) → slice_get (keys_of es) j ≡ Some (shape.Atom node i) → P) → is_among same_stored ps (Atom (record { node = node; mapping = m })) ≡ true → P
+    there_atom ok there =
+        let at = get_among same_stored same_stored-Decides ps p there in
+        ok at.0 (spelled_key maps' es ps more.kept (shape.Atom node i) below at.0 (at.1 ∙ ap Some (sym spells_p)))
+
+    module _ (c : Noted) (one : (a : Interned) → c.counts ≡ counts_of (Atom a)) (before : c.atoms ≡ n) (es' : List (Shape × Noted)) (f : ℕ) (places : Places es es' (shape.Atom node i) c f) where
+      added_atom : Added maps' es' ps p (length es) f
+      added_atom =
+          subst (λ (q : Formula Interned). Added maps' es' ps q (length es) f) spells_p
+          (Added-placed maps' es ps (shape.Atom node i) more.view more.kept below c (one (record { node = node; mapping = get_or maps' i [] })) (before ∙ many_atoms) es' f places)
+
+      pub kept_atom : (r : ℕ) → (f ≡ length es → r ≡ n + 1) → (f < length es → r ≡ n) → IsTable maps' es' r
+      kept_atom r new old = record {
+        keeps = added_atom.kept;
+        atoms_are = elim added_atom.atoms [ inl last ↦ omega (arith, new last.0, last.1, many_atoms) | inr there ↦ omega (arith, old there.0, there.1, many_atoms) ];
+      }
+
+      pub number_atom : IsNumberOf (formulas_of maps' (keys_of es')) f (Atom (record { node = node; mapping = m }))
+      number_atom = added_atom.number
+
+      pub is_atom : formulas_of maps' (keys_of es') ≡ put same_stored ps (Atom (record { node = node; mapping = m }))
+      is_atom = added_atom.is
+
+      pub grows_atom : Grows ps (formulas_of maps' (keys_of es'))
+      grows_atom = subst (Grows ps) (sym added_atom.is) (put_grows same_stored ps p)
+
+-- a mapping that is there gets its number: a formula of it that is there says so
+pub there_map : {P : Type 0} (maps : List Mapping) (es : List (Shape × Noted)) (n : ℕ) (ps : List (Formula Interned)) → formulas_of maps (keys_of es) ≡ ps → IsTable maps es n → (node : NodeId) (m : Mapping)
+    → ((j : ℕ) → slice_get maps j ≡ Some m → P) → is_among same_stored ps (Atom (record { node = node; mapping = m })) ≡ true → P
+there_map {P = P} maps es n ps view t node m ok there =
+    let k = subst (Keeps maps es) view t.keeps in
+    let p : Formula Interned = Atom (record { node = node; mapping = m }) in
+    let at = get_among same_stored same_stored-Decides ps p there in
+    let none : Shape × Noted = (shape.And 0 0, record { counts = record { dnf = 0; cnf = 0; atoms = 0 }; atoms = 0 }) in
+    let e = get_or es at.0 none in
+    let got : slice_get es at.0 ≡ Some e = get_is es at.0 none (omega (arith, k.long, get_below ps at.0 p at.1)) in
+    by at.0 e.0 (k.below at.0 e got) (sym (k.spells at.0 e got) ∙ at.1)
+  where
+    by : (i : ℕ) (s : Shape) → PointsBelow maps i s → Some (spelled maps ps s) ≡ Some (Atom (record { node = node; mapping = m })) → P
+    by i (shape.Atom l j) h e =
+        let same : atom_of l (get_or maps j []) ≡ atom_of node m = cc in
+        ok j (get_is maps j [] h ∙ ap (λ (a : Interned). Some a.mapping) same)
+    by i (shape.And f g) h e = absurd cc
+    by i (shape.Or f g) h e = absurd cc
+
+-- what holds of each refusal
+pub on_err : {T E : Type 0} {P : Type 0} (r : Result T E) → P → OnErr r P
+on_err (Ok x) h = tt
+on_err (Err e) h = h
 
 -- an atom's counts are 1
 abbrev pub one_of_each : Counts
 one_of_each = record { dnf = 1; cnf = 1; atoms = 1 }
 
-pub one_each : (a : Atomic) → one_of_each ≡ counts_of (Atom a)
+pub one_each : (a : Interned) → one_of_each ≡ counts_of (Atom a)
 unfolding saturated
 one_each a = refl
 
 -- ---- reading the table
 
-module _ (atoms : List Atomic) (es : List (Shape × Counts)) (ps : List Formula) (view : formulas_of atoms (keys_of es) ≡ ps) (kept : Keeps atoms es (formulas_of atoms (keys_of es))) (f : FormulaId) (below : f.0 < length ps) where
-  k : Keeps atoms es ps
-  k = subst (Keeps atoms es) view kept
+module _ (maps : List Mapping) (es : List (Shape × Noted)) (n : ℕ) (ps : List (Formula Interned)) (view : formulas_of maps (keys_of es) ≡ ps) (t : IsTable maps es n) where
+  held : Keeps maps es ps
+  held = subst (Keeps maps es) view t.keeps
 
-  pub in_entries : f.0 < length es
-  in_entries = omega (arith, k.long)
+  pub long_as : length es ≡ length ps
+  long_as = sym held.long
 
-  pub spelled_at : (e : Shape × Counts) → slice_get es f.0 ≡ Some e → formula_at ps f ≡ spelled atoms ps e.0
-  spelled_at e h = get_or_is ps f.0 (spelled atoms ps e.0) (Atom no_atom) (k.spells f.0 e h)
+  pub once_each : HasEachOnce ps
+  once_each = once_from_get ps held.alone
 
-  pub number_of : IsNumberOf ps f (formula_at ps f)
-  number_of = record { has = below; at = get_is ps f.0 (Atom no_atom) below; alone = λ g h. k.alone g f.0 (formula_at ps f) h (get_is ps f.0 (Atom no_atom) below) }
+  pub count_atoms : n ≡ length (atoms_of ps)
+  count_atoms = t.atoms_are ∙ ap (λ (qs : List (Formula Interned)). length (atoms_of qs)) view
 
-  pub counts_at : (e : Shape × Counts) → slice_get es f.0 ≡ Some e → e.1 ≡ counts_of (formula_at ps f)
-  counts_at e h = k.counted f.0 e h ∙ ap counts_of (sym (spelled_at e h))
+  module _ (f : FormulaId) (below : f.0 < length ps) where
+    pub in_entries : f.0 < length es
+    in_entries = omega (arith, held.long)
 
-  pub atom_top : (e : Shape × Counts) (n : ℕ) (a : Atomic) → slice_get es f.0 ≡ Some e → e.0 ≡ shape.Atom n → a ≡ get_or atoms n a → (formula_at ps f ≡ Atom a) × (slice_get (atoms_of ps) n ≡ Some a)
-  atom_top e n a h s is =
-      let lt : n < length atoms = subst (PointsBelow atoms f.0) s (k.below f.0 e h) in
-      let at : slice_get atoms n ≡ Some a = get_is atoms n a lt ∙ ap Some (sym is) in
-      (spelled_at e h ∙ ap (spelled atoms ps) s ∙ ap Atom (get_or_is atoms n a no_atom at), ap (λ (xs : List Atomic). slice_get xs n) k.atoms_are ∙ at)
+    pub spelled_at : (e : Shape × Noted) → slice_get es f.0 ≡ Some e → formula_at ps f ≡ spelled maps ps e.0
+    spelled_at e h = get_or_is ps f.0 (spelled maps ps e.0) (Atom no_atom) (held.spells f.0 e h)
 
-  pub and_top : (e : Shape × Counts) (p q : ℕ) → slice_get es f.0 ≡ Some e → e.0 ≡ shape.And p q → (formula_at ps f ≡ And (formula_at ps (id p)) (formula_at ps (id q))) × (p < length ps) × (q < length ps)
-  and_top e p q h s =
-      let lt : (p < f.0) × (q < f.0) = subst (PointsBelow atoms f.0) s (k.below f.0 e h) in
-      (spelled_at e h ∙ ap (spelled atoms ps) s, omega (arith, lt.0), omega (arith, lt.1))
+    pub number_of : IsNumberOf ps f.0 (formula_at ps f)
+    number_of = number_from_get ps f.0 (formula_at ps f) once_each (get_is ps f.0 (Atom no_atom) below)
 
-  pub or_top : (e : Shape × Counts) (p q : ℕ) → slice_get es f.0 ≡ Some e → e.0 ≡ shape.Or p q → (formula_at ps f ≡ Or (formula_at ps (id p)) (formula_at ps (id q))) × (p < length ps) × (q < length ps)
-  or_top e p q h s =
-      let lt : (p < f.0) × (q < f.0) = subst (PointsBelow atoms f.0) s (k.below f.0 e h) in
-      (spelled_at e h ∙ ap (spelled atoms ps) s, omega (arith, lt.0), omega (arith, lt.1))
+    pub counts_at : (e : Shape × Noted) → slice_get es f.0 ≡ Some e → e.1.counts ≡ counts_of (formula_at ps f)
+    counts_at e h = held.counted f.0 e h ∙ ap counts_of (sym (spelled_at e h))
+
+    pub map_below : (e : Shape × Noted) (l : NodeId) (j : ℕ) → slice_get es f.0 ≡ Some e → e.0 ≡ shape.Atom l j → j < length maps
+    map_below e l j h s = subst (PointsBelow maps f.0) s (held.below f.0 e h)
+
+    pub atom_top : (e : Shape × Noted) (l : NodeId) (j : ℕ) (m : Mapping) → slice_get es f.0 ≡ Some e → e.0 ≡ shape.Atom l j → slice_get maps j ≡ Some m
+        → (formula_at ps f ≡ Atom (record { node = l; mapping = m })) × (slice_get (atoms_of ps) e.1.atoms ≡ Some (record { node = l; mapping = m }))
+    atom_top e l j m h s at =
+        let is : formula_at ps f ≡ Atom (record { node = l; mapping = m }) =
+        spelled_at e h ∙ ap (spelled maps ps) s ∙ ap (λ (o : Mapping). Atom (record { node = l; mapping = o })) (get_or_is maps j m [] at) in
+        (is, ap (slice_get (atoms_of ps)) (held.before f.0 e h) ∙ atom_at ps f.0 (record { node = l; mapping = m }) (get_is ps f.0 (Atom no_atom) below ∙ ap Some is))
+
+    pub and_top : (e : Shape × Noted) (p q : ℕ) → slice_get es f.0 ≡ Some e → e.0 ≡ shape.And p q → (formula_at ps f ≡ And (formula_at ps (id p)) (formula_at ps (id q))) × (p < length ps) × (q < length ps)
+    and_top e p q h s =
+        let lt : (p < f.0) × (q < f.0) = subst (PointsBelow maps f.0) s (held.below f.0 e h) in
+        (spelled_at e h ∙ ap (spelled maps ps) s, omega (arith, lt.0), omega (arith, lt.1))
+
+    pub or_top : (e : Shape × Noted) (p q : ℕ) → slice_get es f.0 ≡ Some e → e.0 ≡ shape.Or p q → (formula_at ps f ≡ Or (formula_at ps (id p)) (formula_at ps (id q))) × (p < length ps) × (q < length ps)
+    or_top e p q h s =
+        let lt : (p < f.0) × (q < f.0) = subst (PointsBelow maps f.0) s (held.below f.0 e h) in
+        (spelled_at e h ∙ ap (spelled maps ps) s, omega (arith, lt.0), omega (arith, lt.1))
 
 -- what `get_index` found
 pub entry_found : {A B : Type 0} (shown : A → B) (o : Option A) (x : A) (y : Option B) → o ≡ Some x → option_map shown o ≡ y → y ≡ Some (shown x)
@@ -462,12 +505,12 @@ entry_found shown o x y h e = sym e ∙ ap (option_map shown) h
 
 -- ---- the empty table
 
-formulas_of-empty : (atoms : List Atomic) → formulas_of atoms [] ≡ []
+formulas_of-empty : (maps : List Mapping) → formulas_of maps [] ≡ []
 unfolding formulas_of
-formulas_of-empty atoms = refl
+formulas_of-empty maps = refl
 
-pub formulas_of-nothing : (keys : List AtomKey) (es : List (Shape × Counts)) → es ≡ [] → formulas_of (map atomic_of keys) (keys_of es) ≡ []
-formulas_of-nothing keys es h = ap (λ (ds : List (Shape × Counts)). formulas_of (map atomic_of keys) (keys_of ds)) h ∙ formulas_of-empty (map atomic_of keys)
+pub formulas_of-nothing : (maps : List Mapping) (es : List (Shape × Noted)) → es ≡ [] → formulas_of maps (keys_of es) ≡ []
+formulas_of-nothing maps es h = ap (λ (ds : List (Shape × Noted)). formulas_of maps (keys_of ds)) h ∙ formulas_of-empty maps
 
 Keeps-empty : Keeps [] [] []
 Keeps-empty = record {
@@ -475,54 +518,64 @@ Keeps-empty = record {
   below = λ i e h. absurd cc;
   spells = λ i e h. absurd cc;
   counted = λ i e h. absurd cc;
+  before = λ i e h. absurd cc;
   alone = λ i j p h l. absurd cc;
-  atoms_alone = λ i j a h l. absurd cc;
-  atoms_are = refl;
+  maps_alone = λ i j a h l. absurd cc;
 }
 
-pub Keeps-nothing : (keys : List AtomKey) (es : List (Shape × Counts)) → keys ≡ [] → es ≡ [] → Keeps (map atomic_of keys) es (formulas_of (map atomic_of keys) (keys_of es))
-Keeps-nothing keys es h l =
-    subst (λ (qs : List Formula). Keeps (map atomic_of keys) es qs) (sym (formulas_of-nothing keys es l))
-    (subst (λ (ks : List AtomKey). Keeps (map atomic_of ks) es []) (sym h) (subst (λ (ds : List (Shape × Counts)). Keeps [] ds []) (sym l) Keeps-empty))
+pub nothing_kept : (kept : List (Vec (ℕ × TermId))) (es : List (Shape × Noted)) → kept ≡ [] → es ≡ [] → IsTable (mappings kept) es 0
+nothing_kept kept es h l =
+    subst (λ (vs : List (Vec (ℕ × TermId))). IsTable (mappings vs) es 0) (sym h)
+    (subst (λ (ds : List (Shape × Noted)). IsTable [] ds 0) (sym l)
+    (record { keeps = subst (Keeps [] []) (sym (formulas_of-empty [])) Keeps-empty; atoms_are = ap (λ (qs : List (Formula Interned)). length (atoms_of qs)) (sym (formulas_of-empty [])) }))
 
 -- ---- truth of an atom by its number
 
-assigned_at : (xs : List Atomic) (bs : List Bool) (n : ℕ) (a : Atomic) → length bs ≡ length xs → ((j : ℕ) → slice_get xs j ≡ Some a → j ≡ n)
-    → slice_get xs n ≡ Some a → slice_get bs n ≡ Some (assigned xs bs a)
+assigned_at : (xs : List Interned) (bs : List Bool) (n : ℕ) (a : Interned) → length bs ≡ length xs → ((j : ℕ) → slice_get xs j ≡ Some a → j ≡ n)
+    → slice_get xs n ≡ Some a → slice_get bs n ≡ Some (assigned same_interned xs bs a)
 assigned_at [] bs n a len alone h = absurd cc
 assigned_at (x ∷ xs) [] n a len alone h = absurd (omega arith)
 assigned_at (x ∷ xs) (b ∷ bs) zero a len alone h =
     let same : a ≡ x = cc in
-    ap (λ (t : Bool). Some (cond t b (assigned xs bs a))) (sym ((same_atomic-Decides a x).1 same))
+    ap (λ (t : Bool). Some (cond t b (assigned same_interned xs bs a))) (sym ((same_interned-Decides a x).1 same))
 assigned_at (x ∷ xs) (b ∷ bs) (suc n) a len alone h =
     let other : a ≡ x → ⊥ = λ e. absurd (omega (arith, alone 0 (ap Some (sym e)))) in
-    elim (either (same_atomic a x)) [
-      | inl is_same ↦ absurd (other ((same_atomic-Decides a x).0 is_same))
+    elim (either (same_interned a x)) [
+      | inl is_same ↦ absurd (other ((same_interned-Decides a x).0 is_same))
       | inr differs ↦
           assigned_at xs bs n a (omega (arith, len)) (λ j g. omega (arith, alone (suc j) g)) h
-          ∙ ap (λ (t : Bool). Some (cond t b (assigned xs bs a))) (sym differs)
+          ∙ ap (λ (t : Bool). Some (cond t b (assigned same_interned xs bs a))) (sym differs)
     ]
 
-atoms_once : (ps : List Formula) (a : Atomic) → ((g h : ℕ) → slice_get ps g ≡ Some (Atom a) → slice_get ps h ≡ Some (Atom a) → g ≡ h)
+atom_place : (ps : List (Formula Interned)) (i : ℕ) (a : Interned) → slice_get (atoms_of ps) i ≡ Some a → (g : ℕ) × (slice_get ps g ≡ Some (Atom a))
+atom_place [] i a h = absurd cc
+atom_place (Atom b ∷ ps) zero a h =
+    let same : b ≡ a = cc in
+    (0, ap (λ (x : Interned). Some (Atom x)) same)
+atom_place (Atom b ∷ ps) (suc i) a h = let r = atom_place ps i a h in (suc r.0, r.1)
+atom_place (And p q ∷ ps) i a h = let r = atom_place ps i a h in (suc r.0, r.1)
+atom_place (Or p q ∷ ps) i a h = let r = atom_place ps i a h in (suc r.0, r.1)
+
+atoms_once : (ps : List (Formula Interned)) (a : Interned) → ((g h : ℕ) → slice_get ps g ≡ Some (Atom a) → slice_get ps h ≡ Some (Atom a) → g ≡ h)
     → (i j : ℕ) → slice_get (atoms_of ps) i ≡ Some a → slice_get (atoms_of ps) j ≡ Some a → i ≡ j
 atoms_once [] a once i j h l = absurd cc
 atoms_once (Atom b ∷ ps) a once zero zero h l = refl
 atoms_once (Atom b ∷ ps) a once zero (suc j) h l =
     let r = atom_place ps j a l in
     let same : b ≡ a = cc in
-    absurd (omega (arith, once 0 (suc r.0) (ap (λ (x : Atomic). Some (Atom x)) same) r.1))
+    absurd (omega (arith, once 0 (suc r.0) (ap (λ (x : Interned). Some (Atom x)) same) r.1))
 atoms_once (Atom b ∷ ps) a once (suc i) zero h l =
     let r = atom_place ps i a h in
     let same : b ≡ a = cc in
-    absurd (omega (arith, once 0 (suc r.0) (ap (λ (x : Atomic). Some (Atom x)) same) r.1))
+    absurd (omega (arith, once 0 (suc r.0) (ap (λ (x : Interned). Some (Atom x)) same) r.1))
 atoms_once (Atom b ∷ ps) a once (suc i) (suc j) h l = ap suc (atoms_once ps a (λ g m x y. omega (arith, once (suc g) (suc m) x y)) i j h l)
 atoms_once (And p q ∷ ps) a once i j h l = atoms_once ps a (λ g m x y. omega (arith, once (suc g) (suc m) x y)) i j h l
 atoms_once (Or p q ∷ ps) a once i j h l = atoms_once ps a (λ g m x y. omega (arith, once (suc g) (suc m) x y)) i j h l
 
 -- the truth value at an atom's number is the atom's
-pub truth_at : (ps : List Formula) (bs : List Bool) (f : FormulaId) (p : Formula) (n : ℕ) (a : Atomic) (b : Bool) → length bs ≡ length (atoms_of ps) → IsNumberOf ps f p → p ≡ Atom a → slice_get (atoms_of ps) n ≡ Some a
-    → b ≡ get_or bs n false → b ≡ truth (assigned (atoms_of ps) bs) p
+pub truth_at : (ps : List (Formula Interned)) (bs : List Bool) (f : FormulaId) (p : Formula Interned) (n : ℕ) (a : Interned) (b : Bool) → length bs ≡ length (atoms_of ps) → IsNumberOf ps f.0 p → p ≡ Atom a → slice_get (atoms_of ps) n ≡ Some a
+    → b ≡ get_or bs n false → b ≡ truth (assigned same_interned (atoms_of ps) bs) p
 truth_at ps bs f p n a b len number is at h =
-    let once : (g m : ℕ) → slice_get ps g ≡ Some (Atom a) → slice_get ps m ≡ Some (Atom a) → g ≡ m = λ g m x y. number.alone g (x ∙ ap Some (sym is)) ∙ sym (number.alone m (y ∙ ap Some (sym is))) in
+    let once : (g m : ℕ) → slice_get ps g ≡ Some (Atom a) → slice_get ps m ≡ Some (Atom a) → g ≡ m = λ g m x y. number_alone ps f.0 g p number (x ∙ ap Some (sym is)) ∙ sym (number_alone ps f.0 m p number (y ∙ ap Some (sym is))) in
     let there = assigned_at (atoms_of ps) bs n a len (λ j l. atoms_once ps a once j n l at) at in
-    h ∙ get_or_is bs n (assigned (atoms_of ps) bs a) false there ∙ ap (truth (assigned (atoms_of ps) bs)) (sym is)
+    h ∙ get_or_is bs n (assigned same_interned (atoms_of ps) bs a) false there ∙ ap (truth (assigned same_interned (atoms_of ps) bs)) (sym is)

@@ -1,97 +1,58 @@
 -- Formulas: the normal forms of constraints ([temp.constr.normal]).
-use Rattle.std.specs.Prelude.{◌≡◌, ℕ, Bool, true, false, ◌&&◌, ◌==◌, List, [], ◌∷◌, refl}
+use Rattle.std.specs.Prelude.{◌≡◌, ℕ, Bool, false, ◌&&◌, ◌==◌, List, IsTrue}
+use Rattle.std.specs.Bool.{Decides}
 use Rattle.std.specs.Cmp.Lexicographic.{pointwise}
-use Rattle.std.specs.Coded.{Coded, code_by, coded×, coded⊎, coded_ℕ, coded_bool, coded_list}
-use Rattle.std.proofs.Common.{◌⊎◌, inl, inr, ap, ◌∙◌}
 use Rattle.cx_base.specs.declared.numbers.NodeId.{NodeId}
-use Rattle.cx_base.specs.declared.numbers.TermId.{TermId}
 
 -- An atomic constraint ([temp.constr.atomic]): the node of its expression, and its parameter mapping, a list of
--- template parameters' positions, each with the number of the term that stands for it.
-pub record Atomic : Type 0 where
+-- template parameters' positions, each with its target, which stands for it: a term, or the number of one.
+pub record Atomic (T : Type 0) : Type 0 where
   pub node : NodeId
-  pub mapping : List (ℕ × TermId)
+  pub mapping : List (ℕ × T)
 
--- A normal form: atomic constraints under conjunctions and disjunctions.
-pub data Formula : Type 0 where
-  Atom : Atomic → Formula
-  And : Formula → Formula → Formula
-  Or : Formula → Formula → Formula
+-- A formula over atoms of any kind: atoms under conjunctions and disjunctions. A normal form is one over atomic
+-- constraints.
+pub data Formula (A : Type 0) : Type 0 where
+  Atom : A → Formula A
+  And : Formula A → Formula A → Formula A
+  Or : Formula A → Formula A → Formula A
 
--- whether two pairs of a mapping are equal
-abbrev pub same_target : ℕ × TermId → ℕ × TermId → Bool
-same_target s t = (s.0 == t.0) && (s.1.0 == t.1.0)
+-- a test of two values is a test of their equality
+abbrev pub IsEquality : {X : Type 0} → (X → X → Bool) → Type 0
+IsEquality {X} same = (x y : X) → Decides (same x y) (x ≡ y)
+
+-- whether two pairs of mappings are equal, by a test of targets
+abbrev pub same_pair : {T : Type 0} → (T → T → Bool) → ℕ × T → ℕ × T → Bool
+same_pair same s t = (s.0 == t.0) && same s.1 t.1
 
 -- whether two atomic constraints are identical ([temp.constr.atomic]): one expression, equal mappings
-abbrev pub same_atomic : Atomic → Atomic → Bool
-same_atomic a b = (a.node.0 == b.node.0) && pointwise same_target a.mapping b.mapping
+abbrev pub same_atomic : {T : Type 0} → (T → T → Bool) → Atomic T → Atomic T → Bool
+same_atomic same a b = (a.node.0 == b.node.0) && pointwise (same_pair same) a.mapping b.mapping
 
--- whether two formulas are equal, as trees
-abbrev pub same_formula : Formula → Formula → Bool
-same_formula (Atom a) (Atom b) = same_atomic a b
-same_formula (Atom a) (And p q) = false
-same_formula (Atom a) (Or p q) = false
-same_formula (And p q) (Atom a) = false
-same_formula (And p q) (And r s) = same_formula p r && same_formula q s
-same_formula (And p q) (Or r s) = false
-same_formula (Or p q) (Atom a) = false
-same_formula (Or p q) (And r s) = false
-same_formula (Or p q) (Or r s) = same_formula p r && same_formula q s
+-- whether two formulas are equal as trees, by a test of atoms
+abbrev pub same_formula : {A : Type 0} → (A → A → Bool) → Formula A → Formula A → Bool
+same_formula same (Atom a) (Atom b) = same a b
+same_formula same (Atom a) (And p q) = false
+same_formula same (Atom a) (Or p q) = false
+same_formula same (And p q) (Atom a) = false
+same_formula same (And p q) (And r s) = same_formula same p r && same_formula same q s
+same_formula same (And p q) (Or r s) = false
+same_formula same (Or p q) (Atom a) = false
+same_formula same (Or p q) (And r s) = false
+same_formula same (Or p q) (Or r s) = same_formula same p r && same_formula same q s
 
--- ---- how a formula is stored: its atoms, and after each two operands whether they are joined by `and`
+-- each atom of a formula is of a kind, given by a test
+abbrev pub AtomsAre : {A : Type 0} → (A → Bool) → Formula A → Type 0
+AtomsAre kind (Atom a) = IsTrue (kind a)
+AtomsAre kind (And p q) = AtomsAre kind p × AtomsAre kind q
+AtomsAre kind (Or p q) = AtomsAre kind p × AtomsAre kind q
 
-abbrev Sign : Type 0
-Sign = Atomic ⊎ Bool
+-- a formula with each of its atoms replaced
+abbrev pub renamed : {A B : Type 0} → (A → B) → Formula A → Formula B
+renamed f (Atom a) = Atom (f a)
+renamed f (And p q) = And (renamed f p) (renamed f q)
+renamed f (Or p q) = Or (renamed f p) (renamed f q)
 
-abbrev postfix : Formula → List Sign → List Sign
-postfix (Atom a) rest = inl a ∷ rest
-postfix (And p q) rest = postfix p (postfix q (inr true ∷ rest))
-postfix (Or p q) rest = postfix p (postfix q (inr false ∷ rest))
-
-abbrev joins : Bool → List Formula → List Formula
-joins b [] = []
-joins b (q ∷ []) = q ∷ []
-joins true (q ∷ p ∷ done) = And p q ∷ done
-joins false (q ∷ p ∷ done) = Or p q ∷ done
-
-abbrev reads : List Formula → List Sign → List Formula
-reads done [] = done
-reads done (inl a ∷ signs) = reads (Atom a ∷ done) signs
-reads done (inr b ∷ signs) = reads (joins b done) signs
-
-abbrev first : List Formula → Formula
-first [] = Atom (record { node = record { 0 = 0 }; mapping = [] })
-first (p ∷ ps) = p
-
-pub reads-postfix : (p : Formula) (done : List Formula) (rest : List Sign) → reads done (postfix p rest) ≡ reads (p ∷ done) rest
-reads-postfix (Atom a) done rest = refl
-reads-postfix (And p q) done rest = reads-postfix p done (postfix q (inr true ∷ rest)) ∙ reads-postfix q (p ∷ done) (inr true ∷ rest)
-reads-postfix (Or p q) done rest = reads-postfix p done (postfix q (inr false ∷ rest)) ∙ reads-postfix q (p ∷ done) (inr false ∷ rest)
-
-abbrev numbers : List (ℕ × TermId) → List (ℕ × ℕ)
-numbers [] = []
-numbers (t ∷ ts) = (t.0, t.1.0) ∷ numbers ts
-
-abbrev targets : List (ℕ × ℕ) → List (ℕ × TermId)
-targets [] = []
-targets (t ∷ ts) = (t.0, record { 0 = t.1 }) ∷ targets ts
-
-targets-numbers : (ts : List (ℕ × TermId)) → targets (numbers ts) ≡ ts
-targets-numbers [] = refl
-targets-numbers (t ∷ ts) = ap (λ (us : List (ℕ × TermId)). t ∷ us) (targets-numbers ts)
-
-abbrev stored : Atomic → ℕ × List (ℕ × ℕ)
-stored a = (a.node.0, numbers a.mapping)
-
-abbrev restored : ℕ × List (ℕ × ℕ) → Atomic
-restored c = record { node = record { 0 = c.0 }; mapping = targets c.1 }
-
-pub restored-stored : (a : Atomic) → restored (stored a) ≡ a
-restored-stored a = ap (λ (us : List (ℕ × TermId)). record { node = a.node; mapping = us }) (targets-numbers a.mapping)
-
-abbrev pub atomic_code : Coded Atomic
-atomic_code = code_by (ℕ × List (ℕ × ℕ)) (coded× coded_ℕ (coded_list (coded× coded_ℕ coded_ℕ))) stored restored restored-stored
-
-abbrev pub formula_code : Coded Formula
-formula_code =
-    code_by (List Sign) (coded_list (coded⊎ atomic_code coded_bool)) (λ p. postfix p []) (λ signs. first (reads [] signs)) (λ p. ap first (reads-postfix p [] []))
+-- different atoms of a kind get different names
+abbrev pub TellsApart : {A B : Type 0} → (A → Bool) → (A → B) → Type 0
+TellsApart {A} kind f = (a b : A) → IsTrue (kind a) → IsTrue (kind b) → f a ≡ f b → a ≡ b

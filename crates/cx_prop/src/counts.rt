@@ -11,6 +11,7 @@ impl Counts {
     ghost use Rattle.std.specs.Prelude.{◌≡◌};
     ghost use Rattle.cx_prop.specs.Counting.{counts_of};
     ghost use Rattle.cx_prop.specs.Formula.{Formula, And, Or};
+    ghost use Rattle.cx_prop.specs.Interned.{Interned};
 
     /// The counts of an atom.
     pub(crate) const ATOM: Counts = Counts {
@@ -21,7 +22,7 @@ impl Counts {
 
     /// The counts of a conjunction.
     pub(crate) fn and(self, other: Counts) -> Counts
-        ensures { (p q : Formula) → self ≡ counts_of p → other ≡ counts_of q → result ≡ counts_of (And p q) }
+        ensures { (p q : Formula Interned) → self ≡ counts_of p → other ≡ counts_of q → result ≡ counts_of (And p q) }
     {
         Counts {
             dnf: self.dnf.saturating_mul(other.dnf),
@@ -32,7 +33,7 @@ impl Counts {
 
     /// The counts of a disjunction.
     pub(crate) fn or(self, other: Counts) -> Counts
-        ensures { (p q : Formula) → self ≡ counts_of p → other ≡ counts_of q → result ≡ counts_of (Or p q) }
+        ensures { (p q : Formula Interned) → self ≡ counts_of p → other ≡ counts_of q → result ≡ counts_of (Or p q) }
     {
         Counts {
             dnf: self.dnf.saturating_add(other.dnf),

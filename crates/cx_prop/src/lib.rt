@@ -2,19 +2,18 @@
 //! and their counts; and the law that subsumption by clauses is entailment.
 #![tactic(auto)]
 
-mod atom_key;
 mod counts;
 mod formulas;
 mod laws;
 mod part;
+mod placing;
 mod shape;
 mod valuation;
 
 pub use counts::Counts;
 pub use formulas::Formulas;
-pub use laws::subsumption_is_entailment;
+pub use laws::{
+    counts_pass_alike, equality_is_decided, renaming_keeps_formulas, subsumption_is_entailment,
+};
 pub use part::Part;
 pub use valuation::Valuation;
-
-#[cfg(test)]
-mod tests;

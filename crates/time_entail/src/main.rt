@@ -1,78 +1,16 @@
 //! The time that it takes to decide pairs of formulas that grow: the word `figures` on the command line prints it.
 #![tactic(auto)]
 
-ghost use Rattle.std.specs.Prelude.{◌<◌, ◌≤◌, length, IfOk};
 ghost use Rattle.cx_prop.specs.Table.{Has};
 
-use cx_base::{FormulaId, NodeId, Stop};
+use cx_base::{FormulaId, Stop};
 use cx_derive::{Answer, entails};
 use cx_prop::Formulas;
+use formula_text::{conjunction, conjunction_from_the_right, disjunction, read};
 use std::alloc::Global;
 use std::env;
 use std::rt::Clock;
 use std::time::Instant;
-
-// The formula that a text spells with its operators first: `&` and `|`, and any other byte for an atom.
-fn read<'t>(formulas: &mut Formulas, text: &'t [u8]) -> Result<(FormulaId, &'t [u8]), Stop>
-    ensures has { IfOk result (λ r. Has formulas.new r.0) }
-    ensures grows { length formulas.old ≤ length formulas.new }
-    ensures rest { IfOk result (λ r. length r.1.now ≤ length text.now) }
-    ensures shorter { 0 < length text.now → IfOk result (λ r. length r.1.now < length text.now) }
-{
-    match text {
-        [] => Ok((formulas.atom(NodeId(0), &[])?, text)),
-        [b'&', rest @ ..] => {
-            let (p, rest) = read(formulas, rest)?;
-            let (q, rest) = read(formulas, rest)?;
-            Ok((formulas.and(p, q)?, rest))
-        }
-        [b'|', rest @ ..] => {
-            let (p, rest) = read(formulas, rest)?;
-            let (q, rest) = read(formulas, rest)?;
-            Ok((formulas.or(p, q)?, rest))
-        }
-        [name, rest @ ..] => Ok((formulas.atom(NodeId(*name as u32), &[])?, rest)),
-    }
-}
-
-// The conjunction of the atoms from 0 up to a number, joined from the left.
-fn conjunction(formulas: &mut Formulas, last: u32) -> Result<FormulaId, Stop>
-    ensures has { IfOk result (Has formulas.new) }
-    ensures grows { length formulas.old ≤ length formulas.new }
-{
-    let mut all = formulas.atom(NodeId(0), &[])?;
-    for n in 1..=last {
-        let atom = formulas.atom(NodeId(n), &[])?;
-        all = formulas.and(all, atom)?;
-    }
-    Ok(all)
-}
-
-// The same, joined from the right.
-fn conjunction_from_the_right(formulas: &mut Formulas, last: u32) -> Result<FormulaId, Stop>
-    ensures has { IfOk result (Has formulas.new) }
-    ensures grows { length formulas.old ≤ length formulas.new }
-{
-    let mut all = formulas.atom(NodeId(last), &[])?;
-    for n in (0..last).rev() {
-        let atom = formulas.atom(NodeId(n), &[])?;
-        all = formulas.and(atom, all)?;
-    }
-    Ok(all)
-}
-
-// The disjunction of the atoms from a number up to another, the former last.
-fn disjunction(formulas: &mut Formulas, first: u32, last: u32) -> Result<FormulaId, Stop>
-    ensures has { IfOk result (Has formulas.new) }
-    ensures grows { length formulas.old ≤ length formulas.new }
-{
-    let mut all = formulas.atom(NodeId(first), &[])?;
-    for n in first..last {
-        let atom = formulas.atom(NodeId(n + 1), &[])?;
-        all = formulas.or(atom, all)?;
-    }
-    Ok(all)
-}
 
 // How many steps derive the one formula from the other, if it is derived.
 fn steps(
@@ -121,7 +59,13 @@ const ALIKE: &[u8] = b"&&&&&&&&&|ab|ab|ab|ab|ab|ab|ab|ab|ab|ab";
 
 const ALIKE_CLAUSES: &[u8] = b"|||||||||&ab&ab&ab&ab&ab&ab&ab&ab&ab&ab";
 
-const PAIRS: [(&str, &[u8], &[u8]); 6] = [
+/// The dearest pair within the limit on clauses.
+const DEAREST: &[u8] = b"&&&&&&&&&&|ab|cd|ef|gh|ij|kl|mn|op|qrYZ";
+
+const DEAREST_CLAUSES: &[u8] = b"||||||||||&st&uv&wx&yz&01&23&45&67&89&+-&ZY";
+
+const PAIRS: [(&str, &[u8], &[u8]); 7] = [
+    ("the dearest pair", DEAREST, DEAREST_CLAUSES),
     ("P against Q, atoms distinct", DISTINCT, CLAUSES),
     ("Q against P, atoms distinct", CLAUSES, DISTINCT),
     ("P against Q, two atoms", ALIKE, ALIKE_CLAUSES),

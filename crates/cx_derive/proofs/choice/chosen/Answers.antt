@@ -1,11 +1,13 @@
 use Rattle.std.proofs.Common.{sym, ◌∙◌}
 use Rattle.cx_derive.specs.Goals.{sequent_of}
-use Rattle.cx_derive.proofs.Numbers.{shared_test, chosen_shared, left_chosen, right_choice, right_has}
+use Rattle.cx_derive.proofs.Choosing.{chosen_shared}
+use Rattle.cx_derive.proofs.Numbers.{shared_test, left_chosen, right_choice, right_has}
 use Rattle.cx_derive.proofs.choice.chosen.Goals as goal
+use Rattle.cx_prop.specs.Interned.{same_interned}
 
 pub returns-then-branch-clause-choice : goal.returns-then-branch-clause-choice
 returns-then-branch-clause-choice c =
-    chosen_shared (sequent_of c.args.formulas.now c.args.goal.now)
+    chosen_shared same_interned (sequent_of c.args.formulas.now c.args.goal.now)
     (sym (shared_test c.args.formulas.now c.requires.distinct c.args.goal.now c.requires.goal c.in_ok-shares.field-0 c.deref.result.now c.deref-2.result.now c.in_ok-shares.ensures.ok c.deref.ensures.value c.deref-2.ensures.value) ∙ c.if-branch.true)
 
 pub returns-then-is_some-clause-choice : goal.returns-then-is_some-clause-choice

@@ -1,13 +1,14 @@
 use Rattle.std.proofs.Common.{◌≡◌, ◌+◌, List, [], ◌∷◌, ◌++◌, map, take, Some, inl, inr, ap, sym, subst, ◌∙◌}
 use Rattle.std.specs.Prelude.{slice_get}
 use Rattle.std.proofs.lemmas.List.{map-append, take_more}
-use Rattle.cx_prop.proofs.Lists.{get_push_cases}
+use Rattle.cx_numbered.proofs.Numbered.{get_push_cases}
 use Rattle.cx_derive.specs.declared.deriv.Step.{Step}
 use Rattle.cx_derive.specs.declared.goal.Goal.{Goal}
 use Rattle.cx_derive.specs.Search.{inference_in}
 use Rattle.cx_derive.specs.Goals.{sequent_of, sequents_of}
 use Rattle.cx_derive.specs.Answers.{HasStep, inference_of}
 use Rattle.cx_derive.proofs.steps.steps.Goals as goal
+use Rattle.cx_prop.specs.Interned.{same_interned}
 
 pub loop-goal-preserved : goal.loop-goal-preserved
 loop-goal-preserved c =
@@ -26,6 +27,6 @@ loop-goal-preserved c =
       ],
       ap (map (inference_of table)) c.in_ok-push.ensures.items ∙ map-append (inference_of table) c.loop-goal.steps.items (c.in_ok-step.field-0 ∷ [])
           ∙ (λ i. c.loop-goal.invariant.1 i ++ c.in_ok-step.ensures.ok i ∷ [])
-          ∙ sym (ap (λ (gs : List Goal). map (inference_in all) (sequents_of table gs)) one_more ∙ ap (map (inference_in all)) (map-append (sequent_of table) before (g ∷ []))
-          ∙ map-append (inference_in all) (sequents_of table before) (sequent_of table g ∷ [])),
+          ∙ sym (ap (λ (gs : List Goal). map ((inference_in same_interned) all) (sequents_of table gs)) one_more ∙ ap (map ((inference_in same_interned) all)) (map-append (sequent_of table) before (g ∷ []))
+          ∙ map-append ((inference_in same_interned) all) (sequents_of table before) (sequent_of table g ∷ [])),
     )

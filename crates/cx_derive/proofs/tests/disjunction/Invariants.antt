@@ -1,6 +1,0 @@
-use Rattle.std.proofs.Common.{◌≤◌, length}
-use Rattle.cx_prop.specs.Table.{Has}
-use Rattle.cx_derive.proofs.tests.disjunction.Given as goal
-
-abbrev pub invariant-loop-n : goal.invariant-loop-n
-invariant-loop-n l = Has l.formulas l.all × (length l.fn.formulas ≤ length l.formulas)

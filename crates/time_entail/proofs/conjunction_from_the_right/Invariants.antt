@@ -1,6 +1,0 @@
-use Rattle.std.proofs.Common.{◌≤◌, length}
-use Rattle.cx_prop.specs.Table.{Has}
-use Rattle.time_entail.proofs.conjunction_from_the_right.Given as goal
-
-abbrev pub invariant-loop-n : goal.invariant-loop-n
-invariant-loop-n l = Has l.formulas l.all × (length l.fn.formulas ≤ length l.formulas)
