@@ -25,8 +25,8 @@ fn only(alloc: Global, f: FormulaId) -> Result<Vec<FormulaId>, Stop>
 
 /// Whether a formula entails another, as one constraint does where it subsumes another ([temp.constr.order]): the
 /// canonical derivation where it does, and else the left atoms of the first leaf of the search that no rule closes,
-/// which make the first formula true and the second false. It refuses for want of memory alone. Its time grows with
-/// the product of the first formula's disjunctive clauses and the second's conjunctive clauses.
+/// which make the first formula true and the second false. It refuses for want of memory alone. A derivation has a
+/// step for each distinct sequent that the search comes to.
 pub fn entails(
     alloc: Global,
     formulas: &Formulas,
