@@ -1,0 +1,4 @@
+pub mod Scalars
+pub mod Arithmetic
+pub mod Values
+pub mod Machine
