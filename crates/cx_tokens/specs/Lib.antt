@@ -1,0 +1,4 @@
+pub mod Spelled
+pub mod Tokens
+pub mod Literals
+pub mod Pieces

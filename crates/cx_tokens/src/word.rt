@@ -1,0 +1,40 @@
+/// A reserved word ([lex.key]). Those that the language has no use for are one variant.
+#[derive(Clone, Copy, Debug, PartialEq, Eq)]
+pub enum Word {
+    Auto,
+    Bool,
+    Break,
+    Class,
+    Concept,
+    Const,
+    Constexpr,
+    Continue,
+    Decltype,
+    Else,
+    False,
+    For,
+    If,
+    Inline,
+    Int,
+    Long,
+    Requires,
+    Return,
+    Signed,
+    Static,
+    StaticAssert,
+    StaticCast,
+    Struct,
+    Template,
+    True,
+    Typename,
+    Unsigned,
+    Using,
+    Void,
+    While,
+    /// `__is_same`
+    IsSame,
+    /// `__out`
+    Out,
+    /// A word that no production has.
+    Unused,
+}

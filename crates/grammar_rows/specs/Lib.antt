@@ -1,0 +1,9 @@
+pub mod Texts
+pub mod Printed
+pub mod StatementsPrinted
+pub mod UnitsPrinted
+pub mod Answers
+pub mod ExpressionsRows
+pub mod RequiresRows
+pub mod StatementsRows
+pub mod UnitsRows
