@@ -1,0 +1,16 @@
+pub mod Lawful
+pub mod Readings
+pub mod Sequence
+pub mod Tokens
+pub mod Choices
+pub mod Firsts
+pub mod Repeats
+pub mod Enclosed
+pub mod Counted
+pub mod Idle
+pub mod Naming
+pub mod Levels
+pub mod Firm
+pub mod Room
+pub mod Answers
+pub mod Rules
