@@ -1,0 +1,4 @@
+pub mod Pieces
+pub mod States
+pub mod Classes
+pub mod Reads

@@ -1,0 +1,2 @@
+pub mod StatementViews
+pub mod DeclarationViews
