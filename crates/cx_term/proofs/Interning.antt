@@ -10,7 +10,7 @@ use Rattle.std.proofs.lemmas.Bool.{lt-ltb, le-leb, lt-leb, cases_lt}
 use Rattle.std.proofs.lemmas.List.Quantifiers.{position-Some}
 use Rattle.std.proofs.lemmas.List.Sums.{fails_before_first}
 use Rattle.std.proofs.lemmas.Slice.Eq.{slice_eq-Decides}
-use Rattle.cx_numbered.specs.Numbered.{IsNumberOf, HasEachOnce, is_among}
+use Rattle.cx_numbered.specs.Numbered.{IsNumberOf, is_among}
 use Rattle.cx_numbered.proofs.Numbered.{get_below, get_is, get_or_is, get_map, map_get, number_there, number_last, put_at, put_last, not_among}
 use Rattle.cx_base.specs.contracts.numbers.TermIdPartialEq.TheImpl as ids
 use Rattle.cx_base.specs.declared.numbers.TermId.{TermId}
@@ -20,7 +20,7 @@ use Rattle.cx_term.specs.declared.count.Count.{Count}
 use Rattle.cx_term.specs.Term.{Term, void, arguments}
 use Rattle.cx_term.specs.Same.{same_term, same_terms}
 use Rattle.cx_term.specs.Size.{nodes, all_nodes, depth, all_depth, is_small}
-use Rattle.cx_term.specs.Table.{Table, IsTerm, IsList, HasParts, Extends, tree_at, list_at, tree_of, with_tree, with_list}
+use Rattle.cx_term.specs.Table.{Table, IsTerm, HasParts, Extends, tree_at, list_at, tree_of, with_tree, with_list}
 use Rattle.cx_term.specs.Layout.{table_in, items_of, Counts, Holds, IsTable}
 use Rattle.cx_term.proofs.Trees.{terms_decided, lists_decided, extends_with_tree, extends_with_list, same_numbers}
 use Rattle.cx_term.proofs.Keys.{node_eq, spelled_once, tree_once}

@@ -1,8 +1,8 @@
 -- How the logic stores a tree: as a tree of numbers, one to one.
-use Rattle.std.specs.Prelude.{◌≡◌, ℕ, ℤ, List, refl}
+use Rattle.std.specs.Prelude.{◌≡◌, ℕ, refl}
 use Rattle.std.specs.Coded.{Coded, coded_ℕ, coded_ℤ, coded_list}
 use base.Stored.{Gv, gnil, gnum, gcons, num}
-use Rattle.std.proofs.Common.{ap, sym, ◌∙◌, true, false, ◌==◌, eq-eqb, true≢false}
+use Rattle.std.proofs.Common.{ap, sym, ◌∙◌, false, ◌==◌, eq-eqb, true≢false}
 use Rattle.cx_base.specs.declared.value.Scalar.{Scalar}
 use Rattle.cx_base.specs.contracts.value.Scalar.{the_row as scalar_row}
 use Rattle.cx_term.specs.declared.word.Word.{Word}
@@ -19,13 +19,13 @@ tail gnil = gnil
 tail (gnum n) = gnil
 tail (gcons a b) = b
 
-scalar_code : Coded Scalar
+abbrev scalar_code : Coded Scalar
 scalar_code = scalar_row.coded
 
-word_code : Coded Word
+abbrev word_code : Coded Word
 word_code = word_row.coded
 
-mutual
+unfoldable mutual
   pub term_gv : Term → Gv
   term_gv (param i) = gcons (gnum 0) (gnum i)
   term_gv (scalar s) = gcons (gnum 1) (scalar_code.code s)
