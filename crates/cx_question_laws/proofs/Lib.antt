@@ -1,0 +1,14 @@
+pub mod Combining
+pub mod LimitTests
+pub mod SubstitutionStays
+pub mod TypingStays
+pub mod ConstraintsStay
+pub mod ConstantsStay
+pub mod ResolutionStays
+pub mod HeightsLemmas
+pub mod BodiesStay
+pub mod ReachStay
+pub mod LimitsLemmas
+pub mod Deducing
+pub mod Choosing
+pub mod Ranking
