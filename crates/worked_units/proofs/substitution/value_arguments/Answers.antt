@@ -1,0 +1,31 @@
+use Rattle.std.proofs.Common.{refl}
+use Rattle.cx_machine.specs.Arithmetic.{exactly, settled, quotient, remainder, shifted_left, shifted_right, bitwise, unary_result, binary_result}
+use Rattle.cx_machine.specs.Scalars.{wrapped, converted}
+use Rattle.cx_term.specs.Same.{same_code}
+use Rattle.cx_term.specs.TermCode.{term_gv, arguments_gv}
+use Rattle.cx_term.specs.Size.{nodes, all_nodes, depth, all_depth}
+use Rattle.cx_questions.specs.Answers.{and_then, either, must, present, in_case, if_valid, harden, instead, within, each, every, in_turn}
+use Rattle.cx_questions.specs.Constants.{with_value}
+use Rattle.cx_questions.specs.Knot.{answers}
+use Rattle.worked_units.proofs.substitution.value_arguments.Goals as goal
+
+pub returns : goal.returns
+unfolding exactly settled quotient remainder shifted_left shifted_right bitwise unary_result binary_result wrapped converted same_code term_gv arguments_gv nodes all_nodes depth all_depth and_then either must present in_case if_valid harden instead within each every in_turn with_value answers
+returns c = record {
+  literal = refl;
+  computed = refl;
+  of_bool = refl;
+  to_bool = refl;
+  static_constant = refl;
+  different = refl;
+  greatest = refl;
+  too_large = refl;
+  fits_unsigned = refl;
+  negative = refl;
+  one = refl;
+  two_for_bool = refl;
+  divides = refl;
+  no_constant = refl;
+  negative_outside = refl;
+  no_constant_outside = refl;
+}

@@ -1,0 +1,13 @@
+pub mod Units
+pub mod Deciding
+pub mod Concepts
+pub mod Requirements
+pub mod Heights
+pub mod Typing
+pub mod Constants
+pub mod Substitution
+pub mod Calls
+pub mod Verdicts
+pub mod Ranking
+pub mod Deducing
+pub mod Specialising
