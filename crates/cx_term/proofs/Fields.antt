@@ -6,14 +6,14 @@ use Rattle.std.specs.Map.{keys_of}
 use Rattle.std.proofs.lemmas.Bool.{le-leb}
 use Rattle.std.proofs.lemmas.List.{length-map}
 use Rattle.cx_numbered.specs.Numbered.{IsNumberOf}
-use Rattle.cx_numbered.proofs.Numbered.{get_below, get_is, get_or_is, get_map, get_or_map, number_from_get, once_empty}
+use Rattle.cx_numbered.proofs.Numbered.{get_or_is, get_map, get_or_map, number_from_get, once_empty}
 use Rattle.cx_base.specs.declared.numbers.TermId.{TermId}
 use Rattle.cx_term.specs.declared.node.Node.{Node}
 use Rattle.cx_term.specs.declared.count.Count.{Count}
 use Rattle.cx_term.specs.Term.{Term, void, arguments}
 use Rattle.cx_term.specs.Size.{nodes, all_nodes, depth, all_depth, is_small}
-use Rattle.cx_term.specs.Table.{Table, IsTerm, HasParts, tree_at, list_at, tree_of, no_terms}
-use Rattle.cx_term.specs.Layout.{at, grow, table_of, table_in, items_of, Counts, IsStored, IsStoredList, Holds, IsTable}
+use Rattle.cx_term.specs.Table.{Table, IsTerm, HasParts, tree_at, tree_of, no_terms}
+use Rattle.cx_term.specs.Layout.{grow, table_of, table_in, items_of, Counts, Holds, IsTable}
 use Rattle.cx_term.proofs.Trees.{member_within}
 
 -- the fields of a table that stands for this

@@ -14,7 +14,6 @@ use denote.Enum.Bare.{same_true, true_same, sameb}
 use Rattle.cx_base.specs.declared.numbers.DeclId.{DeclId}
 use Rattle.cx_base.specs.declared.value.Scalar.{Scalar}
 use Rattle.cx_base.specs.contracts.value.Scalar.{the_type}
-use Rattle.cx_term.specs.declared.word.Word.{Word}
 use Rattle.cx_term.specs.Term.{Term, param, scalar, struct, val, local, functions, inst, const, ref, member, decltype, form, void, arguments, members}
 use Rattle.cx_numbered.specs.Numbered.{HasEachOnce}
 use Rattle.cx_term.specs.Table.{Table, IsTerm, IsList, HasParts, spelled, tree_at, list_at, tree_of}

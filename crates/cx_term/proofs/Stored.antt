@@ -1,11 +1,11 @@
 -- What the stored nodes and lists stand for where one more is stored.
-use Rattle.std.proofs.Common.{◌≡◌, ℕ, zero, suc, ◌+◌, ◌<◌, ◌≤◌, List, [], ◌∷◌, ◌++◌, length, get_or, map, Some, All, refl, sym, ap, subst, ◌∙◌, inl, inr, arith}
+use Rattle.std.proofs.Common.{◌≡◌, ℕ, zero, suc, ◌<◌, ◌≤◌, List, [], ◌∷◌, ◌++◌, length, get_or, map, Some, All, refl, sym, ap, subst, ◌∙◌, inl, inr}
 use Rattle.std.specs.Prelude.{slice_get}
 use Rattle.std.specs.Global.{Vec}
 use Rattle.std.specs.Map.{keys_of}
-use Rattle.std.proofs.lemmas.List.{length-map, map-append, get_or_append_left}
+use Rattle.std.proofs.lemmas.List.{length-map, get_or_append_left}
 use Rattle.cx_numbered.specs.Numbered.{HasEachOnce}
-use Rattle.cx_numbered.proofs.Numbered.{get_map, get_or_map, get_push_cases, map_push, put_last, put_once, grows_append, grows_self}
+use Rattle.cx_numbered.proofs.Numbered.{get_or_map, get_push_cases, map_push, put_last, put_once, grows_append, grows_self}
 use Rattle.cx_base.specs.declared.numbers.TermId.{TermId}
 use Rattle.cx_base.specs.declared.numbers.ArgsId.{ArgsId}
 use Rattle.cx_term.specs.declared.node.Node.{Node}
@@ -13,7 +13,7 @@ use Rattle.cx_term.specs.declared.node.Node.TheVariants as node
 use Rattle.cx_term.specs.declared.count.Count.{Count}
 use Rattle.cx_term.specs.Term.{Term, inst, form, arguments}
 use Rattle.cx_term.specs.Size.{nodes, all_nodes, depth, all_depth}
-use Rattle.cx_term.specs.Table.{Table, IsTerm, IsList, HasParts, Extends, spelled, tree_at, list_at, tree_of}
+use Rattle.cx_term.specs.Table.{Table, IsTerm, HasParts, Extends, spelled, tree_at, tree_of}
 use Rattle.cx_term.specs.Layout.{at, listed, grow, table_of, table_in, items_of, Counts, IsStored, IsStoredList, Holds, IsTable}
 use Rattle.cx_term.specs.Same.{same_term, same_terms}
 use Rattle.cx_term.proofs.Trees.{terms_decided, lists_decided, parts_kept, tree_kept, terms_kept, list_kept}

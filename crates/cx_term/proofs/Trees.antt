@@ -1,11 +1,9 @@
 -- Lemmas on trees and their tables. Other crates may cite them.
-use Rattle.std.proofs.Common.{◌≡◌, ℕ, zero, suc, ◌+◌, ◌<◌, ◌≤◌, max, Bool, true, false, ◌&&◌, List, [], ◌∷◌, length, map, get_or, Some, All, refl, sym, ap, subst, ◌∙◌, ◌⊎◌, inl, inr, true≢false, eqb-true, eq-eqb, arith}
-use Rattle.std.specs.Prelude.{◌==◌, slice_get}
-use Rattle.std.specs.Bool.{Decides}
+use Rattle.std.proofs.Common.{◌≡◌, ℕ, zero, suc, ◌<◌, ◌≤◌, Bool, true, false, ◌&&◌, List, [], ◌∷◌, length, map, get_or, All, refl, sym, ap, subst, true≢false, eqb-true, eq-eqb, arith}
 use Rattle.std.proofs.lemmas.Slice.Eq.{slice_eq-Decides}
 use base.Stored.{Gv, gnil, gnum, gcons}
-use Rattle.cx_numbered.specs.Numbered.{DecidesEquality, HasEachOnce, Grows}
-use Rattle.cx_numbered.proofs.Numbered.{get_is, get_or_is, get_below, grows_self, grows_through, grows_both, put_grows}
+use Rattle.cx_numbered.specs.Numbered.{DecidesEquality, HasEachOnce}
+use Rattle.cx_numbered.proofs.Numbered.{grows_self, grows_through, grows_both, put_grows}
 use Rattle.cx_base.specs.declared.numbers.TermId.{TermId}
 use Rattle.cx_base.specs.declared.numbers.ArgsId.{ArgsId}
 use Rattle.cx_term.specs.declared.node.Node.{Node}
@@ -14,7 +12,7 @@ use Rattle.cx_term.specs.Term.{Term, Arguments, param, scalar, void, struct, ins
 use Rattle.cx_term.specs.TermCode.{term_code}
 use Rattle.cx_term.specs.Same.{same_code, same_term, same_terms}
 use Rattle.cx_term.specs.Size.{nodes, depth, all_nodes, all_depth}
-use Rattle.cx_term.specs.Table.{Table, IsTerm, IsList, HasParts, Extends, tree_at, list_at, tree_of, with_tree, with_list}
+use Rattle.cx_term.specs.Table.{Table, IsTerm, IsList, HasParts, Extends, tree_at, tree_of, with_tree, with_list}
 
 -- ---- equality
 

@@ -1,5 +1,5 @@
 -- A table of trees: what each number stands for.
-use Rattle.std.specs.Prelude.{ℕ, List, [], map, slice_index_or}
+use Rattle.std.specs.Prelude.{List, [], slice_index_or}
 use Rattle.cx_numbered.specs.Numbered.{Has, Grows, put}
 use Rattle.cx_base.specs.declared.numbers.TermId.{TermId}
 use Rattle.cx_base.specs.declared.numbers.ArgsId.{ArgsId}

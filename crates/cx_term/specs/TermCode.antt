@@ -1,8 +1,8 @@
 -- How the logic stores a tree: as a tree of numbers, one to one.
-use Rattle.std.specs.Prelude.{◌≡◌, ℕ, ℤ, List, refl}
+use Rattle.std.specs.Prelude.{◌≡◌, ℕ, refl}
 use Rattle.std.specs.Coded.{Coded, coded_ℕ, coded_ℤ, coded_list}
 use base.Stored.{Gv, gnil, gnum, gcons, num}
-use Rattle.std.proofs.Common.{ap, sym, ◌∙◌, true, false, ◌==◌, eq-eqb, true≢false}
+use Rattle.std.proofs.Common.{ap, sym, ◌∙◌, false, ◌==◌, eq-eqb, true≢false}
 use Rattle.cx_base.specs.declared.value.Scalar.{Scalar}
 use Rattle.cx_base.specs.contracts.value.Scalar.{the_row as scalar_row}
 use Rattle.cx_term.specs.declared.word.Word.{Word}
