@@ -1,2 +1,3 @@
+mod Growing
 mod Moves
 pub mod Pieces

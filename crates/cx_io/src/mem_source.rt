@@ -1,6 +1,6 @@
 ghost use Rattle.std.specs.Prelude.{◌≡◌, ◌<◌, ◌≤◌, ◌↔◌, ◌++◌, [], Some, length, min, take, drop, Contains, IsErr, IfOk, OnErr, is_ok, if◌then◌else◌};
 ghost use Rattle.cx_io.specs.Count.{one_more};
-ghost use Rattle.cx_io.specs.Source.{ReadsAtMost, ReadConsumes, IsAtEnd, HasCause};
+ghost use Rattle.cx_io.specs.Source.{ReadsAtMost, ReadConsumes, IsZeroAtEnd, IsZeroThereOnly, HasCause};
 
 use crate::failed::Failed;
 use crate::source::Source;
@@ -73,8 +73,8 @@ impl Source for MemSource {
         requires { 0 < length buf.old }
         ensures bound { ReadsAtMost result buf.new }
         ensures bytes { ReadConsumes (Some self.old.rest) (Some self.new.rest) result buf.new }
-        ensures zero_at_end { IfOk result (λ n. Some self.old.rest ≡ Some [] → n ≡ 0) }
-        ensures zero_there_only { IfOk result (λ n. n ≡ 0 → IsAtEnd (Some self.old.rest)) }
+        ensures zero_at_end { IsZeroAtEnd (Some self.old.rest) result }
+        ensures zero_there_only { IsZeroThereOnly (Some self.old.rest) result }
         ensures never_falls { self.old.faults ≤ self.new.faults }
         ensures cause { HasCause self.old.faults self.new.faults result }
 

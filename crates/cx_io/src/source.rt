@@ -1,5 +1,5 @@
 ghost use Rattle.std.specs.Prelude.{◌≡◌, ℕ, ◌<◌, ◌≤◌, List, [], Option, Some, IfOk, length};
-ghost use Rattle.cx_io.specs.Source.{ReadsAtMost, ReadConsumes, IsAtEnd, HasCause};
+ghost use Rattle.cx_io.specs.Source.{ReadsAtMost, ReadConsumes, IsZeroAtEnd, IsZeroThereOnly, HasCause};
 
 use crate::failed::Failed;
 
@@ -17,8 +17,8 @@ pub trait Source {
         requires { 0 < length buf.old }
         ensures bound { ReadsAtMost result buf.new }
         ensures bytes { ReadConsumes (rest self.old) (rest self.new) result buf.new }
-        ensures zero_at_end { IfOk result (λ n. rest self.old ≡ Some [] → n ≡ 0) }
-        ensures zero_there_only { IfOk result (λ n. n ≡ 0 → IsAtEnd (rest self.old)) }
+        ensures zero_at_end { IsZeroAtEnd (rest self.old) result }
+        ensures zero_there_only { IsZeroThereOnly (rest self.old) result }
         ensures never_falls { faults self.old ≤ faults self.new }
         ensures cause { HasCause (faults self.old) (faults self.new) result };
 }

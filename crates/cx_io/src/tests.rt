@@ -1,10 +1,10 @@
-ghost use Rattle.std.specs.Prelude.{◌≡◌, ℕ, ◌<◌, ◌≤◌, ◌++◌, [], true, false, List, Option, Ok, Err, length, IfOk, OnErr, OnOk, vec_len};
+ghost use Rattle.std.specs.Prelude.{◌≡◌, ℕ, ◌<◌, ◌≤◌, ◌++◌, [], true, false, List, Option, Some, Ok, Err, length, IfOk, OnErr, OnOk, vec_len};
 ghost use Rattle.cx_io.specs.Count.{Rose};
 ghost use Rattle.cx_io.specs.Source.{Consumes, IsAtEnd};
 ghost use Rattle.cx_io.specs.Sink.{Appends, AppendsFront};
 
 use super::*;
-use std::alloc::AllocError;
+use std::alloc::{AllocError, Global};
 use std::io;
 use std::test::Fail;
 
@@ -134,6 +134,45 @@ impl io::Write for Shaky {
     }
 }
 
+/// A writer that keeps what it takes, three bytes at a time, is interrupted at one call and fails at another.
+#[derive(Drop)]
+struct Slow {
+    kept: Vec<u8>,
+    calls: u8,
+    interrupted_at: u8,
+    fails_at: u8,
+}
+
+impl io::Write for Slow {
+    ghost contents = { λ w. Some w.kept.items };
+
+    fn write(&mut self, buf: &[u8]) -> io::Result<usize> {
+        self.calls = self.calls.saturating_add(1);
+        if self.calls == self.interrupted_at {
+            return Err(io::Error::from(io::ErrorKind::Interrupted));
+        }
+        if self.calls == self.fails_at {
+            return Err(io::Error::from(io::ErrorKind::Other));
+        }
+        let count = buf.len().min(3);
+        self.kept.extend_from_slice(&buf[..count])?;
+        Ok(count)
+    }
+
+    fn flush(&mut self) -> io::Result<()> {
+        Ok(())
+    }
+}
+
+fn make_slow(alloc: Global, interrupted_at: u8, fails_at: u8) -> Slow {
+    Slow {
+        kept: Vec::new(alloc),
+        calls: 0,
+        interrupted_at,
+        fails_at,
+    }
+}
+
 fn make_shaky(left: u8, interrupted_at: u8, fails_at: u8) -> Shaky {
     Shaky {
         left,
@@ -214,23 +253,45 @@ fn a_writer_of_std_takes_each_piece(rt: HostRuntime) -> Result<(), Fail> {
 }
 
 #[test]
+fn a_writer_that_takes_three_bytes_has_each_byte_once(rt: HostRuntime) -> Result<(), Fail> {
+    let mut slow = make_slow(rt.alloc(), 2, 0);
+    let mut sink = StdSink::new(&mut slow);
+    assert_eq!(rt; put_both(&mut sink, b"abcdefgh", b"ijk"), Ok(()));
+    assert_eq!(rt; sink.faults(), 1);
+    drop(sink);
+    assert_eq!(rt; slow.kept.as_slice(), b"abcdefghijk".as_slice());
+    Ok(())
+}
+
+#[test]
+fn a_put_that_fails_leaves_a_front(rt: HostRuntime) -> Result<(), Fail> {
+    let mut slow = make_slow(rt.alloc(), 0, 3);
+    let mut sink = StdSink::new(&mut slow);
+    assert_eq!(rt; sink.put(b"abcdefgh"), Err(Failed));
+    assert_eq!(rt; sink.faults(), 1);
+    drop(sink);
+    assert_eq!(rt; slow.kept.as_slice(), b"abcdef".as_slice());
+    Ok(())
+}
+
+#[test]
 fn an_error_of_a_reader_is_a_failure(rt: HostRuntime) -> Result<(), Fail> {
     let mut source = StdSource::new(make_shaky(3, 2, 4));
     let mut buf = [0u8; 4];
-    assert_eq!(rt; source.read(&mut buf), Ok(1));
-    assert_eq!(rt; source.read(&mut buf), Ok(1));
-    assert_eq!(rt; source.read(&mut buf), Err(Failed));
-    assert_eq!(rt; source.read(&mut buf), Ok(1));
-    assert_eq!(rt; source.read(&mut buf), Ok(0));
+    assert_eq!(rt; (source.read(&mut buf), source.faults()), (Ok(1), 0));
+    assert_eq!(rt; (source.read(&mut buf), source.faults()), (Ok(1), 1));
+    assert_eq!(rt; (source.read(&mut buf), source.faults()), (Err(Failed), 2));
+    assert_eq!(rt; (source.read(&mut buf), source.faults()), (Ok(1), 2));
+    assert_eq!(rt; (source.read(&mut buf), source.faults()), (Ok(0), 2));
     Ok(())
 }
 
 #[test]
 fn an_error_of_a_writer_is_a_failure(rt: HostRuntime) -> Result<(), Fail> {
     let mut sink = StdSink::new(make_shaky(5, 2, 4));
-    assert_eq!(rt; sink.put(b"ab"), Ok(()));
-    assert_eq!(rt; sink.put(b"cd"), Err(Failed));
-    assert_eq!(rt; sink.put(b"efg"), Ok(()));
-    assert_eq!(rt; sink.put(b"h"), Err(Failed));
+    assert_eq!(rt; (sink.put(b"ab"), sink.faults()), (Ok(()), 1));
+    assert_eq!(rt; (sink.put(b"cd"), sink.faults()), (Err(Failed), 2));
+    assert_eq!(rt; (sink.put(b"efg"), sink.faults()), (Ok(()), 2));
+    assert_eq!(rt; (sink.put(b"h"), sink.faults()), (Err(Failed), 3));
     Ok(())
 }

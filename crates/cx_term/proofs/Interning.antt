@@ -4,6 +4,8 @@ use Rattle.std.specs.Prelude.{slice_get, is_some}
 use Rattle.std.specs.Global.{Vec}
 use Rattle.std.specs.List.{position, position_or_len}
 use Rattle.std.specs.Map.{keys_of}
+use Rattle.indexmap.specs.IndexMap.{IndexMap, insert_entry, get_by}
+use Rattle.indexmap.proofs.CallerLemmas.{insert_entry-new}
 use Rattle.std.specs.Bool.{Decides}
 use Rattle.std.specs.Cmp.Lexicographic.{pointwise}
 use Rattle.std.proofs.lemmas.Bool.{lt-ltb, le-leb, lt-leb, cases_lt}
@@ -239,3 +241,15 @@ pushed_list table ns ls v c k ts items view holds =
       interned = interned_list_by old (table_in ns (ls ++ (v, c) ∷ [])) made (record { 0 = k }) added
           (subst (λ i. IsNumberOf (with_list old made).lists i made) (how_many_lists old ns ls holds ∙ sym last) (number_last same_terms lists_decided old.lists made holds.lists_once absent));
     }))
+
+-- a list that is not there is inserted last
+pub inserted_list : {S : Type 0} (table : Table) (ns : List (Node × Count)) (m : IndexMap (Vec TermId) Count S) (entries : List (Vec TermId × Count)) (v : Vec TermId) (c : Count) (k : ℕ) (ts : List TermId)
+    → v.items ≡ ts → entries ≡ insert_entry (λ a b. same_ids a.items b) m.entries v c → false ≡ is_some (get_by (same_ids ts) m) → table_in ns m.entries ≡ table → IsTable ns m.entries
+    → All (IsTerm table) ts → Counts c (all_nodes (arguments (map (tree_at table) ts))) (all_depth (arguments (map (tree_at table) ts))) → all_depth (arguments (map (tree_at table) ts)) ≤ 512
+    → position (same_ids ts) (keys_of m.entries) ≡ None → k ≡ length m.entries
+    → PushedList table ns entries (map (tree_at table) ts) (record { 0 = k })
+inserted_list table ns m entries v c k ts items inserted absent view holds terms counts shallow missing last =
+    let absent_here : false ≡ is_some (get_by (same_ids v.items) m) = subst (λ us. false ≡ is_some (get_by (same_ids us) m)) (sym items) absent in
+    let behind : entries ≡ m.entries ++ (v, c) ∷ [] = inserted ∙ insert_entry-new (λ a b. same_ids a.items b) m v c (none_if _ absent_here) in
+    subst (λ es. PushedList table ns es (map (tree_at table) ts) (record { 0 = k })) (sym behind)
+    (pushed_list table ns m.entries v c k ts items view holds terms counts shallow missing last)

@@ -1,8 +1,10 @@
 use Rattle.std.proofs.Common.{◌+◌, ◌-◌, ◌^◌, ◌≤◌, min}
+use Rattle.std.specs.Io.KnownBytes.{Keeps}
 use Rattle.cx_io.proofs.std_sink.StdSink.write_some.Given as goal
 
 abbrev pub invariant-loop : goal.invariant-loop
 invariant-loop g l = record {
-  never_falls : l.initial.self-inside.faults ≤ l.self-inside.faults;
-  rose : min (l.initial.self-inside.faults + l.counter) (2 ^ 64 - 1) ≤ l.self-inside.faults;
+  kept : Keeps (g.W.Write.contents l.initial.self.stream) (g.W.Write.contents l.self.stream);
+  never_falls : l.initial.self.faults ≤ l.self.faults;
+  rose : min (l.initial.self.faults + l.counter) (2 ^ 64 - 1) ≤ l.self.faults;
 }
