@@ -108,15 +108,19 @@ const_parameter autos b c = do
         of ← type_after c t.token.at true k
         typed_parameter c of))
 
+-- type [ Name ]
+unfoldable pub plain_parameter : Below → Context → Production ParameterTree
+plain_parameter b c = do
+  of ← type_id b c
+  typed_parameter c of
+
 -- param = ( type | autotype ) [ Name ], where `auto` may stand or not
 unfoldable pub parameter : Bool → Below → Context → Production ParameterTree
 parameter autos b c =
     when (word words.Const) (const_parameter autos b c)
     (when (where_holds autos (name_of names.Concept)) (constrained_parameter b c None false)
     (when (where_holds autos (word words.Auto)) (auto_parameter c None false None)
-    (do
-      of ← type_id b c
-      typed_parameter c of)))
+    (plain_parameter b c)))
 
 -- [ "void" | param { "," param } ], up to `)`
 unfoldable pub parameters : Bool → Below → Context → Production (List ParameterTree)
@@ -173,17 +177,22 @@ function_body b c = when (punct punctuator.Semicolon)
       body ← block b c
       give (Some body))
 
+-- [ "const" ] [ trailing ] ( block | ";" ), after the parameters of a function
+unfoldable pub function_rest : Surroundings → Within → Context → Specifiers → TypeTree → Piece → List ParameterTree → Production FunctionTree
+function_rest s b c specified result name ps = do
+  is_const ← flag c (where_holds s.is_member (word words.Const))
+  k ← maybe_clause (s.templated || has_auto ps) b.base c
+  body ← function_body b c
+  n ← node
+  give (record { mark = mark n name.token.at; specifiers = specified; result = result; name = name.token.text; parameters = ps; is_const = is_const; trailing = k; body = body })
+
 -- "(" [ params ] ")" [ "const" ] [ trailing ] ( block | ";" ), after the name of a function, which is declared after its
 -- `)`
 unfoldable pub function_parts : Surroundings → Within → Context → Specifiers → TypeTree → Piece → Production FunctionTree
 function_parts s b c specified result name = do
   ps ← in_parentheses c (parameters (not s.is_member) b.base)
   noted ← note_around (scopes_between s) name.token.text (function_kind (is_template s ps.item))
-  is_const ← flag c (where_holds s.is_member (word words.Const))
-  k ← maybe_clause (s.templated || has_auto ps.item) b.base c
-  body ← function_body b c
-  n ← node
-  give (record { mark = mark n name.token.at; specifiers = specified; result = result; name = name.token.text; parameters = ps.item; is_const = is_const; trailing = k; body = body })
+  function_rest s b c specified result name ps.item
 
 -- its parameters are forgotten after it
 unfoldable pub function_after : Surroundings → Within → Context → Specifiers → TypeTree → Piece → Production FunctionTree
@@ -216,28 +225,39 @@ alias b c = do
 abbrev pub of_unit : Surroundings
 of_unit = record { is_member = false; templated = false }
 
+-- init ";", after the name of a constant, which has `constexpr`; else what comes after the name of a function
+unfoldable pub constant_or_function_after : Within → Context → Specifiers → TypeTree → Piece → Production DeclTree
+constant_or_function_after b c s of name = when (where_holds s.is_constexpr (any_but (punct punctuator.LeftParenthesis)))
+    (do
+      v ← constant_after b.base c s of name
+      give (ConstantDecl v))
+    (do
+      f ← function_after of_unit b c s of name
+      give (FunctionDecl f))
+
 -- var = spec type Name init ";" (a specifier is `constexpr`), func = spec type Name "(" ..: told apart after the name
 unfoldable pub variable_or_function : Within → Context → Production DeclTree
 variable_or_function b c = do
   s ← specifiers c no_specifiers
   of ← type_id b.base c
   name ← token c any_name
-  when (where_holds s.is_constexpr (any_but (punct punctuator.LeftParenthesis)))
-      (do
-        v ← constant_after b.base c s of name
-        give (ConstantDecl v))
-      (do
-        f ← function_after of_unit b c s of name
-        give (FunctionDecl f))
+  constant_or_function_after b c s of name
 
 -- ---- structs ([class])
+
+-- type, where a specifier is `constexpr`; else nothing fits
+unfoldable pub static_type : Below → Context → Specifiers → Production TypeTree
+static_type b c s = given s.is_constexpr (type_id b c)
+    (do
+      t ← token c nothing
+      type_id b c)
 
 -- "static" spec type Name init ";" (a specifier is `constexpr`, none is `static`)
 unfoldable pub static_member : Below → Context → Production MemberTree
 static_member b c = do
   start ← token c (word words.Static)
   s ← specifiers c all_but_static
-  of ← given s.is_constexpr (type_id b c) (do t ← token c nothing; type_id b c)
+  of ← static_type b c s
   name ← token c any_name
   v ← constant_after b c s of name
   give (ConstantMember v)
@@ -245,21 +265,29 @@ static_member b c = do
 abbrev pub is_member_specifier : Specifiers → Bool
 is_member_specifier s = s.is_inline || s.is_constexpr
 
+-- ";", after the name of a field
+unfoldable pub field_after : Context → TypeTree → Piece → Production MemberTree
+field_after c of name = do
+  semicolon ← token c (punct punctuator.Semicolon)
+  n ← node
+  noted ← note name.token.text names.Value
+  give (FieldMember (mark n name.token.at) of name.token.text)
+
+-- ";", after the name of a field, which has no specifier; else what comes after the name of a function
+unfoldable pub field_or_function_after : Bool → Within → Context → Specifiers → TypeTree → Piece → Production MemberTree
+field_or_function_after templated b c s of name = when (where_holds (not (is_member_specifier s)) (punct punctuator.Semicolon))
+    (field_after c of name)
+    (do
+      f ← function_after (record { is_member = true; templated = templated }) b c (record s { is_static = false }) of name
+      give (FunctionMember f))
+
 -- type Name ";" | spec type Name "(" .. (no specifier is `static`): told apart after the name
 unfoldable pub field_or_function : Bool → Within → Context → Production MemberTree
 field_or_function templated b c = do
   s ← specifiers c all_but_static
   of ← type_id b.base c
   name ← token c any_name
-  when (where_holds (not (is_member_specifier s)) (punct punctuator.Semicolon))
-      (do
-        semicolon ← token c (punct punctuator.Semicolon)
-        n ← node
-        noted ← note name.token.text names.Value
-        give (FieldMember (mark n name.token.at) of name.token.text))
-      (do
-        f ← function_after (record { is_member = true; templated = templated }) b c (record s { is_static = false }) of name
-        give (FunctionMember f))
+  field_or_function_after templated b c s of name
 
 unfoldable pub empty_member : Context → Production MemberTree
 empty_member c = do
@@ -299,8 +327,8 @@ struct_after templated b c name = do
   give (record { mark = mark n name.token.at; name = name.token.text; members = ms })
 
 -- struct = "struct" Name "{" { member } "}" ";": the name is declared at once
-unfoldable pub struct : Within → Context → Production DeclTree
-struct b c = do
+unfoldable pub struct_decl : Within → Context → Production DeclTree
+struct_decl b c = do
   start ← token c (word words.Struct)
   name ← token c any_name
   noted ← note name.token.text names.TypeName
@@ -496,6 +524,6 @@ decl b c =
     when (punct punctuator.Semicolon) (empty_decl c)
     (when (word words.StaticAssert) (assert_decl b.base c)
     (when (word words.Using) (alias_decl b.base c)
-    (when (word words.Struct) (struct b c)
+    (when (word words.Struct) (struct_decl b c)
     (when (word words.Template) (template b c)
     (variable_or_function b c)))))

@@ -1,7 +1,7 @@
 -- Expressions ([expr]): postfix and unary operators, binary operators, conditionals and assignments.
 use Rattle.std.specs.Prelude.{ℕ, zero, suc, Bool, true, false, nat_le, Option, Some, None}
 use Rattle.cx_tokens.specs.declared.punctuator.Punctuator.TheVariants as punctuator
-use Rattle.cx_tokens.specs.Pieces.{is_first}
+use Rattle.cx_tokens.specs.Pieces.{Piece, is_first}
 use Rattle.cx_syntax.specs.declared.context.Context.{Context}
 use Rattle.cx_syntax.specs.declared.operators.UnaryOperator.{UnaryOperator}
 use Rattle.cx_syntax.specs.declared.operators.UnaryOperator.TheVariants as prefix'

@@ -6,7 +6,8 @@
 --             | "__is_same" "(" type "," type ")" | "__out" "(" expr ")" | requires
 --
 -- Before a list in braces a scalar is one word. A name of a type or of a class template is no primary alone.
-use Rattle.std.specs.Prelude.{Bool, true, false, List, Option, Some, None}
+use Rattle.std.specs.Prelude.{ℕ, Bool, true, false, List, Option, Some, None}
+use Rattle.cx_base.specs.declared.place.Place.{Place}
 use Rattle.cx_base.specs.declared.value.Scalar.{Scalar}
 use Rattle.cx_base.specs.declared.value.Scalar.TheVariants as scalar
 use Rattle.cx_tokens.specs.declared.word.Word.{Word}

@@ -1,5 +1,5 @@
 -- Requires-expressions ([expr.prim.req]), and constraints of types ([temp.param]), which stand in them.
-use Rattle.std.specs.Prelude.{List, [], ◌∷◌, Some, None, false}
+use Rattle.std.specs.Prelude.{List, [], ◌∷◌, Option, Some, None, false}
 use Rattle.cx_tokens.specs.declared.word.Word.TheVariants as word'
 use Rattle.cx_tokens.specs.declared.punctuator.Punctuator.TheVariants as punctuator
 use Rattle.cx_tokens.specs.Pieces.{Piece}
@@ -10,7 +10,7 @@ use Rattle.cx_syntax.specs.Productions.{Production, give, ◌>>=◌, token, when
 use Rattle.cx_syntax.specs.Combinators.{node, note, in_scope, optional, maybe, in_parentheses, in_braces, one_more_item}
 use Rattle.cx_syntax.specs.Classes.{word, punct, any_name, name_of, any_but}
 use Rattle.cx_syntax.specs.Precedence.{expression_level, logical_or_level}
-use Rattle.cx_productions.specs.Trees.{mark, ExprTree, RequiresTree, place_of, TypeTree, OfCore, MemberTypeTree, type_place, arguments, ConstraintTree, LocalTree, locals, RequirementTree, SimpleRequirement, TypeRequirement, CompoundRequirement, NestedRequirement, requirements}
+use Rattle.cx_productions.specs.Trees.{mark, ExprTree, RequiresTree, place_of, TypeTree, OfCore, CoreTree, MemberTypeTree, type_place, ArgumentTree, arguments, ConstraintTree, LocalTree, locals, RequirementTree, SimpleRequirement, TypeRequirement, CompoundRequirement, NestedRequirement, requirements}
 use Rattle.cx_productions.specs.Below.{Below}
 use Rattle.cx_productions.specs.Scalars.{Core}
 use Rattle.cx_productions.specs.Types.{argument_list, member_names, as_type, class_core, type_name_core, type_id}

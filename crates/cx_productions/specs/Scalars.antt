@@ -3,7 +3,7 @@
 --     scalar = "bool" | "int" | "signed" [ "int" ] | "unsigned" [ "int" ]
 --            | [ "signed" ] "long" "long" [ "int" ]
 --            | "unsigned" "long" "long" [ "int" ] | "long" "long" "unsigned" [ "int" ]
-use Rattle.std.specs.Prelude.{if◌then◌else◌}
+use Rattle.std.specs.Prelude.{Bool, if◌then◌else◌}
 use Rattle.cx_base.specs.declared.place.Place.{Place}
 use Rattle.cx_base.specs.declared.value.Scalar.{Scalar}
 use Rattle.cx_base.specs.declared.value.Scalar.TheVariants as scalar

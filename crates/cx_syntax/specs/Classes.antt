@@ -4,8 +4,9 @@ use Rattle.cx_tokens.specs.declared.word.Word.{Word}
 use Rattle.cx_tokens.specs.declared.punctuator.Punctuator.{Punctuator}
 use Rattle.cx_tokens.specs.declared.punctuator.Punctuator.TheVariants as punctuator
 use Rattle.cx_tokens.specs.Literals.{type_of}
-use Rattle.cx_tokens.specs.Pieces.{is_word, is_punctuator, is_name, is_literal, is_string, is_end, is_all, is_first, is_second}
+use Rattle.cx_tokens.specs.Pieces.{Piece, is_word, is_punctuator, is_name, is_literal, is_string, is_end, is_all, is_first, is_second}
 use Rattle.cx_names.specs.declared.name_kind.NameKind.{NameKind}
+use Rattle.cx_names.specs.Frames.{Frames}
 use Rattle.cx_names.specs.Kinds.{is_kind}
 use Rattle.cx_syntax.specs.declared.context.OpenLists.{OpenLists}
 use Rattle.cx_syntax.specs.Contexts.{is_listed, is_twice_listed}

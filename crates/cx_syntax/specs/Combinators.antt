@@ -3,12 +3,13 @@ use Rattle.std.specs.Prelude.{ℕ, ◌+◌, Bool, true, false, List, [], ◌∷�
 use Rattle.cx_base.specs.declared.place.Place.{Place}
 use Rattle.cx_tokens.specs.declared.punctuator.Punctuator.{Punctuator}
 use Rattle.cx_tokens.specs.declared.punctuator.Punctuator.TheVariants as punctuator
+use Rattle.cx_tokens.specs.Pieces.{Piece}
 use Rattle.cx_names.specs.declared.name_kind.NameKind.{NameKind}
 use Rattle.cx_names.specs.Frames.{noted, noted_around, entered, left}
 use Rattle.cx_syntax.specs.declared.context.Context.{Context}
 use Rattle.cx_syntax.specs.Contexts.{deeper, inside, listed}
 use Rattle.cx_syntax.specs.Productions.{Production, Class, give, step, ◌>>=◌, token, when, repeat}
-use Rattle.cx_syntax.specs.Classes.{punct, closing, any_but}
+use Rattle.cx_syntax.specs.Classes.{word, punct, closing, any_but}
 
 -- ---- nodes, names, scopes
 

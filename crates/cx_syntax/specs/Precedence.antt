@@ -1,10 +1,10 @@
 -- Operators ([expr.unary.op] to [expr.ass]): which punctuator is which, and how tightly each binds.
-use Rattle.std.specs.Prelude.{ℕ, Bool, true, false, ◌&&◌, not, Option, Some, None, is_some, ◌==◌, if◌then◌else◌}
+use Rattle.std.specs.Prelude.{ℕ, Bool, true, false, ◌||◌, ◌&&◌, not, Option, Some, None, is_some, ◌==◌, if◌then◌else◌}
 use Rattle.cx_tokens.specs.declared.punctuator.Punctuator.{Punctuator}
 use Rattle.cx_tokens.specs.declared.punctuator.Punctuator.TheVariants as punctuator
 use Rattle.cx_tokens.specs.declared.token.TokenKind.{TokenKind}
 use Rattle.cx_tokens.specs.declared.token.TokenKind.TheVariants as kind
-use Rattle.cx_tokens.specs.Pieces.{Piece, Half, Second}
+use Rattle.cx_tokens.specs.Pieces.{Piece, Half, All, First, Second, is_all}
 use Rattle.cx_syntax.specs.declared.context.OpenLists.{OpenLists}
 use Rattle.cx_syntax.specs.declared.operators.UnaryOperator.{UnaryOperator}
 use Rattle.cx_syntax.specs.declared.operators.UnaryOperator.TheVariants as prefix'

@@ -1,5 +1,5 @@
 -- What a production is, and the productions that others are made of.
-use Rattle.std.specs.Prelude.{◌≡◌, ◌≢◌, ◌⊎◌, ℕ, zero, suc, Bool, true, false, List, [], ◌∷◌, length, Ok, Err, IsTrue, if◌then◌else◌}
+use Rattle.std.specs.Prelude.{◌≡◌, ◌≢◌, ◌⊎◌, ℕ, zero, suc, Bool, true, false, List, [], ◌∷◌, length, Result, Ok, Err, IsTrue, if◌then◌else◌}
 use Rattle.cx_tokens.specs.Pieces.{Piece}
 use Rattle.cx_names.specs.Frames.{Frames}
 use Rattle.cx_syntax.specs.declared.context.Context.{Context}

@@ -1,5 +1,5 @@
 -- The state of a reader, and what may come of a reading.
-use Rattle.std.specs.Prelude.{ℕ, Bool, true, ◌||◌, nat_le, List, ◌++◌, Result, Ok, Err, if◌then◌else◌}
+use Rattle.std.specs.Prelude.{ℕ, Bool, true, ◌||◌, nat_le, List, [], ◌∷◌, ◌++◌, Result, Ok, Err, if◌then◌else◌}
 use Rattle.cx_base.specs.declared.kind.Kind.TheVariants as fault
 use Rattle.cx_tokens.specs.Pieces.{Piece, is_unsupported}
 use Rattle.cx_tokens.specs.Tokens.{TokenTree}

@@ -50,7 +50,7 @@ expressions_rows_2 =
     -- names and literals
     ∷ row expr 0 (codes "7ull") (codes "7ull")
     ∷ row expr 0 (codes "a b") (codes "a ..1")
-    -- names behind a type
+    -- names after a type
     ∷ row expr 0 (codes "Box<int>::x::y + 1") (codes "(Box<type int>::x::y + 1)")
     ∷ row expr 0 (codes "Box::x") (codes "Syntax 4")
     -- casts

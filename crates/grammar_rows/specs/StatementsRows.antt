@@ -49,7 +49,7 @@ statements_rows_2 =
     ∷ row stmt 0 (codes "long long unsigned x = 1;") (codes "unsigned long long x = 1;")
     ∷ row stmt 0 (codes "int 1 = x;") (codes "Syntax 5")
     ∷ row stmt 0 (codes "int x = {1};") (codes "Syntax 9")
-    -- variables behind constexpr
+    -- variables after constexpr
     ∷ row stmt 0 (codes "constexpr int x = 1;") (codes "constexpr int x = 1;")
     ∷ row stmt 0 (codes "constexpr;") (codes "Syntax 10")
     -- variables of auto
@@ -72,7 +72,7 @@ statements_rows_2 =
     -- constructs that are open before count
     ∷ row stmt 255 (codes "{}") (codes "Depth 1")
     ∷ row stmt 255 (codes "static_assert(a);") (codes "Depth 14")
-    -- the name of a local is noted behind it
+    -- the name of a local is noted after it
     ∷ row names' 0 (codes "int T = 1;") (codes "T Value, U TypeName, Box ClassTemplate, x none")
     ∷ row names' 0 (codes "{ int U = 1; }") (codes "T TypeName, U TypeName, Box ClassTemplate, x none")
     ∷ row names' 0 (codes "for (int U = 1;;) int Box = 1;") (codes "T TypeName, U TypeName, Box ClassTemplate, x none")
