@@ -1,11 +1,11 @@
 -- What needs a piece, takes one, or begins with each piece of a class.
-use Rattle.std.proofs.Common.{◌≡◌, ◌⊎◌, inl, inr, Bool, true, false, ◌||◌, List, [], ◌∷◌, ◌++◌, Ok, Err, refl, ap, arith, lt_of_le_of_lt}
+use Rattle.std.proofs.Common.{◌∙◌, ◌≡◌, ◌⊎◌, inl, inr, Bool, true, false, ◌||◌, List, [], ◌∷◌, ◌++◌, Ok, Err, refl, ap, arith, lt_of_le_of_lt}
 use Rattle.cx_tokens.specs.Pieces.{Piece}
-use Rattle.cx_syntax.specs.declared.stopped.Stopped.TheVariants.{Exhausted}
+use Rattle.cx_syntax.specs.declared.stopped.Stopped.TheVariants.{Ended, Exhausted}
 use Rattle.cx_syntax.specs.States.{State, freed, ◌>>>◌, Reading}
 use Rattle.cx_syntax.specs.Productions.{Production, Class, ◌>>=◌, closed, read_closed, when}
 use Rattle.cx_syntax_laws.proofs.Lawful.{grown, freed_reading, Open, Next, Opened, Stays, Misfits, TooDeep, Spent, Early, Shut, Late, Same, Lawful, Filled, Takes, Opens}
-use Rattle.cx_syntax_laws.proofs.Readings.{part_length, open_as, next_as}
+use Rattle.cx_syntax_laws.proofs.Readings.{Ending, Whole, Partial, ending, part_length, open_as, next_as}
 use Rattle.cx_syntax_laws.proofs.Sequence.{first_open}
 use Rattle.cx_syntax_laws.proofs.Choices.{when_one, chosen}
 
@@ -48,6 +48,14 @@ module _ {A B : Type 0} (f : A → Production B) where
 
   pub opens_first : {q : Class} {p : Production A} → Opens q p → ((x : A) → Lawful true (f x)) → Opens q (p >>= f)
   opens_first {p} op hf = record { opens = λ s t before e h. begun_next hf (op.opens s t (Err Exhausted) e h) }
+
+-- the first may read nothing
+pub filled_after : {A B : Type 0} {p : Production A} (f : A → Production B) → Lawful true p → ((x : A) → Filled (f x)) → Filled (p >>= f)
+filled_after {p} f hp ff = record { filled = λ s e. by_ending s (ending (p.read s) (hp.basic.nothing s e)) }
+  where
+    by_ending : (s : State) → Ending (p.read s) → (p.read s >>> (λ q. (f q.0).read q.1)) ≡ Err Ended
+    by_ending s (Whole x u d l) = ap (λ (r : Reading _). r >>> (λ q. (f q.0).read q.1)) d ∙ (ff x).filled u l
+    by_ending s (Partial d) = ap (λ (r : Reading _). r >>> (λ q. (f q.0).read q.1)) d
 
 -- ---- no level is left
 

@@ -9,8 +9,14 @@ pub mod Enclosed
 pub mod Counted
 pub mod Idle
 pub mod Naming
+pub mod Spending
 pub mod Levels
 pub mod Firm
 pub mod Room
 pub mod Answers
 pub mod Rules
+pub mod NumberBounds
+pub mod Even
+pub mod EvenRules
+pub mod Numbering
+pub mod Faults

@@ -1,0 +1,16 @@
+pub mod TypeLaws
+pub mod ExpressionLaws
+pub mod NameLaws
+pub mod GrowLaws
+pub mod FirmLaws
+pub mod StatementLaws
+pub mod DeclarationLaws
+pub mod UnitGrows
+pub mod UnitFirm
+pub mod Lasting
+pub mod Turns
+pub mod NumberBounds
+pub mod EvenLaws
+pub mod WholeLaws
+pub mod NumberLaws
+pub mod NodeLaws

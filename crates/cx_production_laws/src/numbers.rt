@@ -1,0 +1,17 @@
+//! The nodes of a tree are numbered without a gap.
+
+ghost use Rattle.std.specs.Prelude.{ℕ};
+ghost use Rattle.cx_syntax.specs.declared.context.Context.{Context};
+ghost use Rattle.cx_productions.specs.Nodes.{expr_nodes, type_nodes};
+ghost use Rattle.cx_productions.specs.Levels.{levels};
+ghost use Rattle.cx_productions.specs.Types.{type_id};
+ghost use Rattle.cx_productions.specs.Expressions.{expr};
+ghost use Rattle.cx_productions.specs.Clauses.{clause};
+ghost use Rattle.cx_production_laws.specs.NumberedNodes.{NumberedNodes};
+
+/// Expressions ([expr]), types ([dcl.type]) and the clause of a requires ([temp.pre]).
+pub fn numbers_of_expressions()
+    ensures expressions { (level : ℕ) (c : Context) → NumberedNodes expr_nodes (λ n. expr (levels n) level c) }
+    ensures types { (c : Context) → NumberedNodes type_nodes (λ n. type_id (levels n) c) }
+    ensures clauses { (c : Context) → NumberedNodes expr_nodes (λ n. clause (levels n) c) }
+{}
