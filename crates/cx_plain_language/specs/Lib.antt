@@ -1,0 +1,5 @@
+pub mod Tree
+pub mod View
+pub mod Text
+pub mod Typing
+pub mod Meaning
