@@ -12,12 +12,12 @@ use Rattle.cx_questions.specs.ConstraintOrder.{too_many_clauses}
 use Rattle.cx_questions.specs.Environments.{Environment, Form}
 use Rattle.cx_questions.specs.Forms.{Expression, TypeForm, Statement}
 use Rattle.cx_questions.specs.PartialOrdering.{list_at_least, left_to_constraints}
-use Rattle.cx_questions.specs.Program.{Program, Limits, with_limits, Parameter, Function, Struct, Constant, Declaration, a_function, a_struct, a_concept, a_constant, a_field, Member, static_constant, member_function, function_of}
+use Rattle.cx_questions.specs.Program.{Program, Limits, with_limits, Parameter, Function, Struct, Constant, Declaration, a_function, a_struct, a_concept, a_constant, a_field, Member, static_constant, member_function, function_of, struct_of}
 use Rattle.cx_questions.specs.Questions.{Questions}
-use Rattle.cx_questions.specs.Reach.{Reached, Progress, through, in_first, head_type, with_parameter, body_needs, needs_of, newly_reached, reaches, reach_from, own, reach}
+use Rattle.cx_questions.specs.Reach.{Reached, Progress, through, in_first, head_type, with_parameter, object_of, body_needs, needs_of, newly_reached, reaches, reach_from, own, reach}
 use Rattle.cx_questions.specs.Requirements.{requires_value}
 use Rattle.cx_questions.specs.Satisfaction.{concept_value}
-use Rattle.cx_questions.specs.Specialisations.{compared_specialisation, compared_primary}
+use Rattle.cx_questions.specs.Specialisations.{own_type, compared_specialisation, compared_primary}
 use Rattle.cx_questions.specs.Stages.{Item, an_assertion, an_alias, a_declaration, in_order, list_allowed, form_of_template, more_than_primary, specialises, members_allowed, constant_allowed, types_of, types_judged, form_judged, member_form, forms_of, forms_judged, constant_judged, member_constant, constants_of, constants_judged, verdict_by}
 use Rattle.cx_question_laws.specs.Staying.{Stays, it_stays, AllStay, AtMost}
 use Rattle.cx_question_laws.proofs.BodiesStay.{judged_stays, completed_stays, asserted_stays}
@@ -56,8 +56,14 @@ module _ (kind : Limit → Bool) (u : Program) (l : Limits) (all : (x : Limit) �
   with_parameter_stays : (env : Environment) (p : Parameter) → Stays kind (with_parameter u b env p) (with_parameter (with_limits u l) c env p)
   with_parameter_stays env p = search (staying, head_type_stays) depth 12
 
+  own_type_stays : (d : DeclId) (s : Struct) (ts : List Term) → Stays kind (own_type u b d s ts) (own_type (with_limits u l) c d s ts)
+  own_type_stays d s ts = search (staying, argument_stays kind u l larger b c below) depth 12
+
+  object_of_stays : (f : Function) (ts : List Term) → Stays kind (object_of u b f ts) (object_of (with_limits u l) c f ts)
+  object_of_stays f ts = search (staying, λ (d : DeclId). own_type_stays d (struct_of u d) ts) depth 12
+
   body_needs_stay : (f : Function) (ts : List Term) (s : Statement) → Stays kind (body_needs u b f ts s) (body_needs (with_limits u l) c f ts s)
-  body_needs_stay f ts s = search (staying, head_type_stays, with_parameter_stays, judged_stays kind u l larger b c below) depth 12
+  body_needs_stay f ts s = search (staying, object_of_stays, head_type_stays, with_parameter_stays, judged_stays kind u l larger b c below) depth 12
 
   needs_of_stay : (r : Reached) → Stays kind (needs_of u b r) (needs_of (with_limits u l) c r)
   needs_of_stay r = search (staying, through_stays, body_needs_stay) depth 12
@@ -119,7 +125,7 @@ module _ (kind : Limit → Bool) (u : Program) (l : Limits) (all : (x : Limit) �
   specialises_stays d s = search (staying, list_allowed_stays, more_than_primary_stays) depth 12
 
   members_allowed_stays : (d : DeclId) (s : Struct) → Stays kind (members_allowed u b d s) (members_allowed (with_limits u l) c d s)
-  members_allowed_stays d s = search (staying, all_members_stay kind u l larger b c below) depth 12
+  members_allowed_stays d s = search (staying, own_type_stays, all_members_stay kind u l larger b c below) depth 12
 
   constant_allowed_stays : (d : DeclId) (x : Constant) → Stays kind (constant_allowed u b d x) (constant_allowed (with_limits u l) c d x)
   constant_allowed_stays d x = search (staying, constant_typed_stays kind u l larger b c below, completed_stays kind u l larger b c below) depth 12

@@ -55,7 +55,8 @@ module _ (kind : Limit → Bool) (u : Program) (l : Limits) (larger : Larger kin
   module _ (env : Environment) (at : Place) where
     pub for_position_stays : (k : Parametric) (x : Explicit) → Stays kind (for_position u b env at k x) (for_position (with_limits u l) c env at k x)
     for_position_stays k (type_given t) = same_stays _
-    for_position_stays k (value_given e) = search (staying, argument_stays kind u l larger b c below) depth 12
+    for_position_stays None (value_given e) = same_stays _
+    for_position_stays (Some s) (value_given e) = search (staying, argument_stays kind u l larger b c below) depth 12
 
     pub explicit_arguments_stay : (ks : List Parametric) (xs : List Explicit) → Stays kind (explicit_arguments u b env at ks xs) (explicit_arguments (with_limits u l) c env at ks xs)
     explicit_arguments_stay ks xs = search (staying, for_position_stays) depth 12

@@ -11,7 +11,7 @@ use Rattle.cx_questions.specs.Answers.{Answer, given, hard, must, present, eithe
 use Rattle.cx_questions.specs.Constants.{takes, initialised as in_declared_type}
 use Rattle.cx_questions.specs.Conversions.{convert}
 use Rattle.cx_questions.specs.Environments.{Environment, Typed, Choice, best_is, none_viable, ambiguous}
-use Rattle.cx_questions.specs.Forms.{Mark, Expression, Expressions, Callee, TypeForm, Constraint, Declared, as_type, as_auto, Initialiser, equals, braces, Statement, Statements, empty_statement, block, assertion, break_statement, continue_statement, return_statement, if_statement, while_statement, for_statement, variable, expression_statement, no_statement, and_statement, place_of, type_place, parentheses, unary, binary, conditional, dot, call, list, cast, out, no_expression, and_expression, object_functions, template_id, const_type, reference_type}
+use Rattle.cx_questions.specs.Forms.{Mark, Expression, Expressions, Callee, TypeForm, Constraint, Declared, as_type, as_auto, Initialiser, equals, braces, Statement, Statements, empty_statement, block, assertion, break_statement, continue_statement, return_statement, if_statement, while_statement, for_statement, variable, expression_statement, no_statement, and_statement, place_of, type_place, class_place, parentheses, unary, binary, conditional, dot, call, list, cast, out, no_expression, and_expression, object_functions, const_type}
 use Rattle.cx_questions.specs.Parameters.{put_at}
 use Rattle.cx_questions.specs.Program.{Program}
 use Rattle.cx_questions.specs.Questions.{Questions}
@@ -39,16 +39,6 @@ pub record Around : Type 0 where
 
 abbrev pub in_a_loop : Around → Around
 in_a_loop around = record around { in_loop = true }
-
--- the place at which the class of a type is asked for: a template-id's own, else that of the type's first token
-abbrev pub place_behind_const : Place → TypeForm → Place
-place_behind_const first (template_id m at d xs) = at
-place_behind_const first (const_type m t) = place_behind_const first t
-place_behind_const first (reference_type m t) = place_behind_const first t
-place_behind_const first t = first
-
-abbrev pub class_place : TypeForm → Place
-class_place t = place_behind_const (type_place t) t
 
 module _ (u : Program) (b : Questions) where
   -- ---- expressions

@@ -213,6 +213,16 @@ abbrev pub argument_place : ArgumentForm → Place
 argument_place (of_type t) = type_place t
 argument_place (of_value e) = place_of e
 
+-- the place at which the class of a type is asked for: a template-id's own, else that of the type's first token
+abbrev pub place_after_const : Place → TypeForm → Place
+place_after_const first (template_id m at d xs) = at
+place_after_const first (const_type m t) = place_after_const first t
+place_after_const first (reference_type m t) = place_after_const first t
+place_after_const first t = first
+
+abbrev pub class_place : TypeForm → Place
+class_place t = place_after_const (type_place t) t
+
 -- an expression without the parentheses round it
 abbrev pub stripped : Expression → Expression
 stripped (parentheses m e) = stripped e

@@ -89,7 +89,7 @@ module _ (u : Program) (b : Questions) where
   abbrev pub object_category : Typed → Cat
   object_category e = if is_lvalue e then cat.Lvalue else cat.Xvalue
 
-  -- behind `.` a static constant and a member function that is not called are not supported
+  -- after `.` a static constant and a member function that is not called are not supported
   abbrev pub no_field : Place → Class → Name → Answer Typed
   no_field at c name = must (not (is_some (constant_named u c name) || has_function u c name)) (hard kind.Unsupported at) >> soft kind.InvalidExpr at
 
@@ -113,7 +113,7 @@ module _ (u : Program) (b : Questions) where
     c ← qualifier at head t
     present (member_type_of u c name) (soft kind.InvalidExpr at)
 
-  -- behind `::` a field and a member function are not supported
+  -- after `::` a field and a member function are not supported
   abbrev pub no_constant : Place → Class → Name → Answer Typed
   no_constant at c name = must (not (is_some (field_type u c name) || has_function u c name)) (hard kind.Unsupported at) >> soft kind.InvalidExpr at
 

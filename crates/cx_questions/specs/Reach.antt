@@ -1,22 +1,22 @@
 -- Which functions are emitted ([basic.def.odr], [temp.inst]): the unit's own, and what these need.
 use Rattle.std.specs.Prelude.{ℕ, ◌+◌, zero, suc, ◌==◌, nat_lt, length, Bool, false, ◌&&◌, ◌||◌, List, [], ◌∷◌, ◌++◌, Option, Some, None, is_some}
 use Rattle.std.specs.List.{list_any}
-use Rattle.std.specs.Option.{option_map_or}
 use Rattle.cx_base.specs.declared.kind.Kind.TheVariants as kind
 use Rattle.cx_base.specs.declared.limit.Limit.TheVariants as limit
 use Rattle.cx_base.specs.declared.numbers.DeclId.{DeclId}
 use Rattle.cx_base.specs.declared.place.Place.{Place}
 use Rattle.cx_term.specs.Same.{same_terms}
 use Rattle.cx_term.specs.Term.{Term}
-use Rattle.cx_questions.specs.Answers.{Answer, given, hard, passed, must, present, either, harden, within, in_turn, ◌>>=◌, ◌>>◌}
-use Rattle.cx_questions.specs.Bodies.{Need, judged, completed, class_place}
+use Rattle.cx_questions.specs.Answers.{Answer, given, hard, passed, must, present, either, in_case, harden, within, in_turn, ◌>>=◌, ◌>>◌}
+use Rattle.cx_questions.specs.Bodies.{Need, judged, completed}
 use Rattle.cx_questions.specs.Environments.{Environment, Object}
-use Rattle.cx_questions.specs.Forms.{Statement, TypeForm}
+use Rattle.cx_questions.specs.Forms.{class_place, Statement, TypeForm}
 use Rattle.cx_questions.specs.Parameters.{with_local}
 use Rattle.cx_questions.specs.Program.{Program, Parameter, Function, function_of, struct_of}
 use Rattle.cx_questions.specs.Questions.{Questions}
+use Rattle.cx_questions.specs.Specialisations.{own_type}
 use Rattle.cx_questions.specs.Substitution.{substitute_type}
-use Rattle.cx_questions.specs.TermTests.{without_ref, replaced, argument_of}
+use Rattle.cx_questions.specs.TermTests.{without_ref}
 
 -- A function that is reached: its declaration, the arguments of its template or of its struct's, and the calls by which it
 -- was reached, outermost first, each the first that needed it.
@@ -43,7 +43,7 @@ in_first (r ∷ rest) done next = next r rest
 module _ (u : Program) (b : Questions) where
   -- ---- one body
 
-  -- a struct in the head of a function is asked for, behind a reference too
+  -- a struct in the head of a function is asked for, of a reference too
   abbrev pub head_type : Environment → TypeForm → Answer Term
   head_type env t = do
     of ← harden (substitute_type u b env t)
@@ -54,13 +54,16 @@ module _ (u : Program) (b : Questions) where
   with_parameter env p = head_type env p.of >>= λ of. given (with_local env p.local of)
 
   -- the object of a member function: of the type that its struct has with the arguments
-  abbrev pub object_of : Function → List Term → Option Object
-  object_of f arguments = option_map_or (λ d. Some (record { of = replaced (argument_of arguments) (struct_of u d).itself; is_const = f.is_const })) f.owner None
+  abbrev pub object_of : Function → List Term → Answer (Option Object)
+  object_of f arguments = in_case f.owner
+      (λ d. harden (own_type u b d (struct_of u d) arguments) >>= λ t. given (Some (record { of = t; is_const = f.is_const })))
+      (λ _. given None)
 
   -- A function's body is judged: the structs of its head in the order of the text, then the statements.
   abbrev pub body_needs : Function → List Term → Statement → Answer (List Need)
   body_needs f arguments body = do
-    let outside : Environment = record { arguments = arguments; variables = []; object = object_of f arguments }
+    object ← object_of f arguments
+    let outside : Environment = record { arguments = arguments; variables = []; object = object }
     result ← head_type outside f.result
     inside ← in_turn with_parameter outside f.parameters
     j ← judged u b (record { result = result; in_loop = false }) inside body

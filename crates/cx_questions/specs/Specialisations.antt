@@ -1,13 +1,13 @@
 -- Which declaration an instance of a class template is made by: a specialisation, or the template itself
 -- ([temp.class.spec.match], [temp.class.order]).
-use Rattle.std.specs.Prelude.{Bool, not, ◌&&◌, List, [], ◌∷◌, length, map, zip, filter_map, Option, Some, None, option_map, option_and_then}
+use Rattle.std.specs.Prelude.{Bool, not, ◌&&◌, List, [], ◌∷◌, length, map, zip, filter_map, Option, Some, None, option_map, option_and_then, if◌then◌else◌}
 use Rattle.std.specs.List.{range_with_len}
 use Rattle.cx_base.specs.declared.kind.Kind.TheVariants as kind
 use Rattle.cx_base.specs.declared.limit.Limit.TheVariants as limit
 use Rattle.cx_base.specs.declared.numbers.DeclId.{DeclId}
 use Rattle.cx_base.specs.declared.place.Place.{Place}
 use Rattle.cx_term.specs.Same.{same_terms}
-use Rattle.cx_term.specs.Term.{Term, param}
+use Rattle.cx_term.specs.Term.{Term, param, struct, inst, arguments}
 use Rattle.cx_questions.specs.Answers.{Answer, given, soft, broken, passed, fault_about, ◌>>=◌, ◌>>◌, must, present, in_case, if_valid, each}
 use Rattle.cx_questions.specs.Program.{Program, Parametric, Struct, struct_of, kinds, place_of_declaration}
 use Rattle.cx_questions.specs.Environments.{only_arguments, Form, Chosen}
@@ -63,6 +63,16 @@ module _ (u : Program) where
   abbrev pub beyond_clauses : Matching → Matching → Bool
   beyond_clauses f g = left_to_constraints list_at_least (compared_matching f) (compared_matching g) && too_many_clauses u.limits.clauses f.form g.form
 
+  -- the argument list of a specialisation with arguments put in
+  abbrev pub list_with : Questions → Struct → List Term → Answer (List Term)
+  list_with b s xs = each (λ p. substitute_argument u b (only_arguments xs) p.0 p.1) (zip (primary_kinds s) s.specialised_for)
+
+  -- the type that a struct, class template or specialisation has inside, with the arguments of its positions
+  abbrev pub own_type : Questions → DeclId → Struct → List Term → Answer Term
+  own_type b d s xs = in_case s.primary
+      (λ primary. list_with b s xs >>= λ ts. given (inst primary (arguments ts)))
+      (λ _. given (if s.is_template then inst d (arguments xs) else struct d))
+
   module _ (b : Questions) (at : Place) (ts : List Term) where
     abbrev pub no_match : {A : Type 0} → Answer A
     no_match = soft kind.NoViable at
@@ -72,7 +82,7 @@ module _ (u : Program) where
     abbrev pub matching : DeclId → Answer Matching
     matching d = do
       xs ← present (option_and_then all_assigned (fitting (kinds (struct_of u d).template_parameters) (zip (list_of (struct_of u d)) ts))) no_match
-      made ← each (λ p. substitute_argument u b (only_arguments xs) p.0 p.1) (zip (primary_kinds (struct_of u d)) (struct_of u d).specialised_for)
+      made ← list_with b (struct_of u d) xs
       must (same_terms made ts) no_match
       form ← satisfied_form b d (struct_of u d).constraints at (only_arguments xs)
       given (record { declaration = d; arguments = xs; form = form })

@@ -8,12 +8,12 @@ use Rattle.cx_base.specs.declared.limit.Limit.TheVariants as limit
 use Rattle.cx_base.specs.declared.numbers.DeclId.{DeclId}
 use Rattle.cx_base.specs.declared.place.Place.{Place}
 use Rattle.cx_questions.specs.Answers.{Answer, given, hard, passed, must, either, harden, in_turn, ◌>>=◌, ◌>>◌}
-use Rattle.cx_questions.specs.Bodies.{asserted, completed, class_place}
+use Rattle.cx_questions.specs.Bodies.{asserted, completed}
 use Rattle.cx_questions.specs.Classes.{signature, all_members}
 use Rattle.cx_questions.specs.Constants.{initialiser_value}
 use Rattle.cx_questions.specs.ConstraintOrder.{too_many_clauses}
 use Rattle.cx_questions.specs.Environments.{only_arguments, Form}
-use Rattle.cx_questions.specs.Forms.{Mark, Expression, TypeForm, ArgumentForm, of_type, of_value}
+use Rattle.cx_questions.specs.Forms.{class_place, Mark, Expression, TypeForm, ArgumentForm, of_type, of_value}
 use Rattle.cx_questions.specs.Knot.{answers, whole_height}
 use Rattle.cx_questions.specs.Members.{constant_typed}
 use Rattle.cx_questions.specs.PartialOrdering.{list_at_least, left_to_constraints, more_specialised}
@@ -22,7 +22,7 @@ use Rattle.cx_questions.specs.Questions.{Questions, of_declaration}
 use Rattle.cx_questions.specs.Reach.{Reached, reach}
 use Rattle.cx_questions.specs.Requirements.{requires_value}
 use Rattle.cx_questions.specs.Satisfaction.{concept_value}
-use Rattle.cx_questions.specs.Specialisations.{primary_of, primary_kinds, compared_specialisation, compared_primary}
+use Rattle.cx_questions.specs.Specialisations.{own_type, primary_of, primary_kinds, compared_specialisation, compared_primary}
 use Rattle.cx_questions.specs.Substitution.{substitute_type, substitute_argument}
 
 -- what stands in a unit, in its order; a function that is declared again stands once, where it is declared first
@@ -78,7 +78,7 @@ module _ (u : Program) (b : Questions) where
 
   -- a struct that is no template, or a full specialisation: all its members
   abbrev pub members_allowed : DeclId → Struct → Passes
-  members_allowed d s = either s.is_template (λ _. given tt) (λ _. all_members u b (record { declaration = d; arguments = [] }) s.itself >>= λ c. given tt)
+  members_allowed d s = either s.is_template (λ _. given tt) (λ _. harden (own_type u b d s []) >>= λ t. all_members u b (record { declaration = d; arguments = [] }) t >>= λ c. given tt)
 
   -- a constexpr variable of the unit: its type, and the class of that ([dcl.constexpr])
   abbrev pub constant_allowed : DeclId → Constant → Passes

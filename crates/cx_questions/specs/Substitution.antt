@@ -26,7 +26,7 @@ use Rattle.cx_questions.specs.Environments.{Environment, Typed, Class, only_argu
 use Rattle.cx_questions.specs.Questions.{Questions, of_declaration}
 use Rattle.cx_questions.specs.TermTests.{with_const, without_const, with_ref, is_void, is_type, is_val_of, replaced, argument_of}
 use Rattle.cx_questions.specs.Appearance.{appearing, is_settled, is_settled_type, are_settled}
-use Rattle.cx_questions.specs.Terms.{members_of, behind, constant_term, requires_term, operand_of}
+use Rattle.cx_questions.specs.Terms.{members_of, member_name, constant_term, requires_term, operand_of}
 
 -- a tree within the limits on its size
 abbrev pub made : Program → Place → Term → Answer Term
@@ -192,11 +192,11 @@ module _ (u : Program) (b : Questions) where
         made u at (form word.Cond (arguments (r ∷ s ∷ t ∷ [])))
       substitute_expression at (dot m e name) = do
         s ← substitute_expression at e
-        made u at (form word.Dot (arguments (s ∷ behind name ∷ [])))
+        made u at (form word.Dot (arguments (s ∷ member_name name ∷ [])))
       substitute_expression at (scope m t names name) = do
         s ← substitute_type t
         r ← either (is_settled_type u env t) (λ _. members_in m (type_place t) s names) (λ _. given (members_of s names))
-        made u at (form word.Scope (arguments (r ∷ behind name ∷ [])))
+        made u at (form word.Scope (arguments (r ∷ member_name name ∷ [])))
       substitute_expression at (call m f xs) = do
         s ← substitute_callee at f
         ts ← substitute_expressions at xs
@@ -236,10 +236,10 @@ module _ (u : Program) (b : Questions) where
       substitute_callee at (functions_with m name visible xs) = do
         ts ← substitute_arguments [] xs
         made u at (form word.Call (arguments (function_names name visible ∷ ts)))
-      substitute_callee at (own_functions m name) = given (behind name)
+      substitute_callee at (own_functions m name) = given (member_name name)
       substitute_callee at (object_functions m e name) = do
         s ← substitute_expression at e
-        made u at (form word.Dot (arguments (s ∷ behind name ∷ [])))
+        made u at (form word.Dot (arguments (s ∷ member_name name ∷ [])))
       substitute_callee at (no_function e) = substitute_expression at e
 
     -- an argument by itself, for a position of this kind

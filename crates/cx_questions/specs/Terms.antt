@@ -19,14 +19,14 @@ abbrev pub members_of : Term → List Name → Term
 members_of t [] = t
 members_of t (name ∷ names) = members_of (member t name) names
 
--- a name behind `.` or `::`
-abbrev pub behind : Name → Term
-behind name = function_names name 0
+-- a name after `.` or `::`
+abbrev pub member_name : Name → Term
+member_name name = function_names name 0
 
 -- a constant of the unit is its declaration; a static constant is named in its struct
 abbrev pub constant_in : Program → DeclId → Option DeclId → Term
 constant_in u d None = struct d
-constant_in u d (Some owner) = form word.Scope (arguments ((struct_of u owner).itself ∷ behind (constant_of u d).name ∷ []))
+constant_in u d (Some owner) = form word.Scope (arguments ((struct_of u owner).itself ∷ member_name (constant_of u d).name ∷ []))
 
 abbrev pub constant_term : Program → DeclId → Term
 constant_term u d = constant_in u d (constant_of u d).owner
@@ -55,8 +55,8 @@ module _ (u : Program) where
     expression_term (unary m w e) = form w (argument (expression_term e) nothing)
     expression_term (binary m w a b) = form w (argument (expression_term a) (argument (expression_term b) nothing))
     expression_term (conditional m c a b) = form word.Cond (argument (expression_term c) (argument (expression_term a) (argument (expression_term b) nothing)))
-    expression_term (dot m e name) = form word.Dot (argument (expression_term e) (argument (behind name) nothing))
-    expression_term (scope m t names name) = form word.Scope (argument (members_of (type_term t) names) (argument (behind name) nothing))
+    expression_term (dot m e name) = form word.Dot (argument (expression_term e) (argument (member_name name) nothing))
+    expression_term (scope m t names name) = form word.Scope (argument (members_of (type_term t) names) (argument (member_name name) nothing))
     expression_term (call m f xs) = form word.Call (argument (callee_term f) (expression_terms xs))
     expression_term (list m t xs) = form word.List (argument (type_term t) (expression_terms xs))
     expression_term (cast m t e) = form word.Cast (argument (type_term t) (argument (expression_term e) nothing))
@@ -73,8 +73,8 @@ module _ (u : Program) where
     pub callee_term : Callee → Term
     callee_term (functions m name visible) = function_names name visible
     callee_term (functions_with m name visible xs) = form word.Call (argument (function_names name visible) (argument_terms xs))
-    callee_term (own_functions m name) = behind name
-    callee_term (object_functions m e name) = form word.Dot (argument (expression_term e) (argument (behind name) nothing))
+    callee_term (own_functions m name) = member_name name
+    callee_term (object_functions m e name) = form word.Dot (argument (expression_term e) (argument (member_name name) nothing))
     callee_term (no_function e) = expression_term e
 
     pub type_term : TypeForm → Term

@@ -6,7 +6,7 @@ use Rattle.cx_base.specs.declared.value.Scalar.TheVariants as scalars
 use Rattle.cx_term.specs.Term.{Term, void}
 use Rattle.cx_term.specs.declared.typed.Cat.TheVariants as cat
 use Rattle.cx_questions.specs.Answers.{Answer, given, invalid, soft, hard, fault_about, ◌>>=◌, ◌>>◌, either, in_turn}
-use Rattle.cx_questions.specs.Forms.{Expression, Expressions, expressions, type_place, literal, local_name, position_name, field_name, constant_name, functions_name, other_name, parentheses, unary, binary, conditional, dot, scope, call, list, cast, is_same, out, concept_id, requires, requires_with, no_expression, and_expression}
+use Rattle.cx_questions.specs.Forms.{Expression, Expressions, expressions, type_place, class_place, literal, local_name, position_name, field_name, constant_name, functions_name, other_name, parentheses, unary, binary, conditional, dot, scope, call, list, cast, is_same, out, concept_id, requires, requires_with, no_expression, and_expression}
 use Rattle.cx_questions.specs.Program.{Program, concept_of, kinds, place_of_declaration}
 use Rattle.cx_questions.specs.Environments.{Environment, Typed, Choice, Winner, best_is, none_viable, ambiguous}
 use Rattle.cx_questions.specs.Questions.{Questions}
@@ -80,7 +80,7 @@ module _ (u : Program) (b : Questions) where
       type_expression (cast m t e) = do
         s ← substitute_type u b env t
         x ← type_expression e
-        cast_typed b m.at (type_place t) s x
+        cast_typed b m.at (class_place t) s x
       type_expression (is_same m t v) = substitute_type u b env t >> substitute_type u b env v >> given (value_of scalars.Bool)
       type_expression (out m e) = do
         x ← type_expression e

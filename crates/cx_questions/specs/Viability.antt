@@ -52,9 +52,10 @@ module _ (u : Program) (b : Questions) where
     -- an explicit argument for a position: of its kind, a value as one of the position's type
     abbrev pub for_position : Parametric → Explicit → Answer Term
     for_position k (type_given t) = must (is_of_kind k t) not_viable >> given t
-    for_position k (value_given e) = do
-      t ← substitute_argument u b env k (of_value e)
-      must (is_of_kind k t) not_viable
+    for_position None (value_given e) = not_viable
+    for_position (Some s) (value_given e) = do
+      t ← substitute_argument u b env (Some s) (of_value e)
+      must (is_of_kind (Some s) t) not_viable
       given t
 
     -- at most as many as there are positions

@@ -8,6 +8,12 @@ pub mod Constants
 pub mod Substitution
 pub mod Calls
 pub mod Verdicts
+pub mod Overloads
+pub mod Templates
+pub mod Instances
+pub mod Mappings
 pub mod Ranking
 pub mod Deducing
 pub mod Specialising
+pub mod Judging
+pub mod Stages

@@ -846,8 +846,8 @@ member_on_const_unit_items = (a_declaration (d 0) ∷ a_declaration (d 3) ∷ []
 
 -- template<typename T> T id(T t) { return t; }
 -- int g() { return id<int>(7) + id(true); }
-abbrev pub explicit_arguments_unit : Program
-explicit_arguments_unit =
+abbrev pub instances_by_arguments_unit : Program
+instances_by_arguments_unit =
     unit
     (a_function (record { at = (p 1 24); name = (codes "id"); owner = None; is_template = true; template_parameters = (tp None None ∷ []); constraints = ([]); parameters = (parameter (position_type (m 1 1 27) 0) 0 true ∷ []); result = (position_type (m 0 1 22) 0); is_const = false; is_constexpr = false; body = Some (block (m 4 1 32) (and_statement (return_statement (m 3 1 34) (Some (local_name (m 2 1 41) 0))) no_statement)) })
     ∷ a_function (record { at = (p 2 5); name = (codes "g"); owner = None; is_template = false; template_parameters = ([]); constraints = ([]); parameters = ([]); result = (scalar_type (m 5 2 1) scalars.Int); is_const = false; is_constexpr = false; body = Some (block (m 15 2 9) (and_statement (return_statement (m 14 2 11) (Some (binary (m 13 2 18) word.Plus (call (m 9 2 18) (functions_with (m 7 2 18) (codes "id") 1 (and_type (scalar_type (m 6 2 21) scalars.Int) no_argument)) (and_expression (literal (m 8 2 26) scalars.Int (pos 7)) no_expression)) (call (m 12 2 31) (functions (m 10 2 31) (codes "id") 1) (and_expression (literal (m 11 2 34) scalars.Bool (pos 1)) no_expression))))) no_statement)) })
@@ -858,8 +858,8 @@ explicit_arguments_unit =
     (around 0 (None ∷ []) true ∷ around 5 ([]) false ∷ [])
     ([])
 
-abbrev pub explicit_arguments_unit_items : List Item
-explicit_arguments_unit_items = (a_declaration (d 0) ∷ a_declaration (d 1) ∷ [])
+abbrev pub instances_by_arguments_unit_items : List Item
+instances_by_arguments_unit_items = (a_declaration (d 0) ∷ a_declaration (d 1) ∷ [])
 
 -- template<typename T> int f(T&) { return 1; }
 -- template<typename T> int f(const T&) { return 2; }

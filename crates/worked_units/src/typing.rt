@@ -43,8 +43,8 @@ pub fn unary_operators()
     ensures not { valued unary_operators_unit unary_operators_unit_assert_5_1 ≡ holds }
     ensures before { valued unary_operators_unit unary_operators_unit_assert_12_1 ≡ holds }
     ensures before_bool { valued unary_operators_unit unary_operators_unit_assert_13_1 ≡ fails }
-    ensures behind { valued unary_operators_unit unary_operators_unit_assert_14_1 ≡ holds }
-    ensures behind_bool { valued unary_operators_unit unary_operators_unit_assert_15_1 ≡ fails }
+    ensures after { valued unary_operators_unit unary_operators_unit_assert_14_1 ≡ holds }
+    ensures after_bool { valued unary_operators_unit unary_operators_unit_assert_15_1 ≡ fails }
     ensures of_const { valued unary_operators_unit unary_operators_unit_assert_16_1 ≡ fails }
     ensures of_prvalue { valued unary_operators_unit unary_operators_unit_assert_17_1 ≡ fails }
     ensures plus_of_bool { valued unary_operators_unit unary_operators_unit_assert_18_1 ≡ holds }
@@ -156,7 +156,7 @@ pub fn casts()
     ensures other_struct_reference { valued casts_unit casts_unit_assert_25_1 ≡ fails }
 {}
 
-/// Names behind `::` and behind `.`.
+/// Names after `::` and after `.`.
 pub fn qualified_names()
     ensures constant { valued qualified_names_unit qualified_names_unit_assert_12_1 ≡ holds }
     ensures of_const { valued qualified_names_unit qualified_names_unit_assert_13_1 ≡ holds }

@@ -14,7 +14,9 @@ unfolding exactly settled quotient remainder shifted_left shifted_right bitwise 
 returns c = record {
   agree = refl;
   disagree = refl;
-  converts = refl;
-  const_and_not = refl;
-  no_conversion = refl;
+  given_once = refl;
+  given_first = refl;
+  given_and_deduced = refl;
+  not_given = refl;
+  given_against = refl;
 }

@@ -12,10 +12,10 @@ use Rattle.worked_units.proofs.deducing.not_deduced.Goals as goal
 pub returns : goal.returns
 unfolding exactly settled quotient remainder shifted_left shifted_right bitwise unary_result binary_result wrapped converted same_code term_gv arguments_gv nodes all_nodes depth all_depth and_then either must present in_case if_valid harden instead within each every in_turn with_value answers
 returns c = record {
-  with_another = refl;
-  alone = refl;
-  explicitly = refl;
-  operand = refl;
-  dependent_value = refl;
-  other_value = refl;
+  nothing_deduces = refl;
+  given = refl;
+  deduced_elsewhere = refl;
+  type_of_parameter = refl;
+  type_of_sum = refl;
+  other_type = refl;
 }

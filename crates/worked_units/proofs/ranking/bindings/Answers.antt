@@ -12,16 +12,16 @@ use Rattle.worked_units.proofs.ranking.bindings.Goals as goal
 pub returns : goal.returns
 unfolding exactly settled quotient remainder shifted_left shifted_right bitwise unary_result binary_result wrapped converted same_code term_gv arguments_gv nodes all_nodes depth all_depth and_then either must present in_case if_valid harden instead within each every in_turn with_value answers
 returns c = record {
-  lvalue = refl;
-  const_lvalue = refl;
-  prvalue = refl;
-  value_or_reference = refl;
-  value_alone = refl;
-  no_prvalue = refl;
-  no_other_type = refl;
-  no_const = refl;
-  by_rank = refl;
-  converted_temporaries = refl;
-  value_or_const_reference = refl;
-  both_promote = refl;
+  of_variable = refl;
+  of_const = refl;
+  of_literal = refl;
+  of_temporary = refl;
+  of_member = refl;
+  of_xvalue = refl;
+  only_variable = refl;
+  not_const = refl;
+  not_literal = refl;
+  not_converted = refl;
+  not_xvalue = refl;
+  not_struct = refl;
 }

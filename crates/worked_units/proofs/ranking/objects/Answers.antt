@@ -12,14 +12,20 @@ use Rattle.worked_units.proofs.ranking.objects.Goals as goal
 pub returns : goal.returns
 unfolding exactly settled quotient remainder shifted_left shifted_right bitwise unary_result binary_result wrapped converted same_code term_gv arguments_gv nodes all_nodes depth all_depth and_then either must present in_case if_valid harden instead within each every in_turn with_value answers
 returns c = record {
-  not_const = refl;
+  of_variable = refl;
   of_const = refl;
+  of_reference = refl;
+  of_reference_to_const = refl;
   of_prvalue = refl;
-  prvalue_binds = refl;
-  const_does_not = refl;
-  const_member = refl;
-  const_member_of_variable = refl;
-  member_of_lvalue = refl;
-  member_of_xvalue = refl;
-  no_member = refl;
+  of_xvalue = refl;
+  not_const = refl;
+  none_for_const = refl;
+  prvalue_too = refl;
+  object_and_argument = refl;
+  argument_against_object = refl;
+  const_alone = refl;
+  prvalue_against_argument = refl;
+  own_object = refl;
+  own_const_object = refl;
+  own_none = refl;
 }

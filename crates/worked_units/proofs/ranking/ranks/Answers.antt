@@ -12,12 +12,13 @@ use Rattle.worked_units.proofs.ranking.ranks.Goals as goal
 pub returns : goal.returns
 unfolding exactly settled quotient remainder shifted_left shifted_right bitwise unary_result binary_result wrapped converted same_code term_gv arguments_gv nodes all_nodes depth all_depth and_then either must present in_case if_valid harden instead within each every in_turn with_value answers
 returns c = record {
-  exact = refl;
-  exact_bool = refl;
-  exact_long = refl;
-  conversions_all = refl;
-  promotion = refl;
+  bool_itself = refl;
+  int_itself = refl;
+  three_conversions = refl;
+  long_itself = refl;
+  promoted = refl;
   two_conversions = refl;
-  exact_unsigned = refl;
-  int_to_both = refl;
+  promotion_over_temporary = refl;
+  reference_itself = refl;
+  value_itself = refl;
 }

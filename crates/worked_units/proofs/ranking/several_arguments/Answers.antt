@@ -13,8 +13,9 @@ pub returns : goal.returns
 unfolding exactly settled quotient remainder shifted_left shifted_right bitwise unary_result binary_result wrapped converted same_code term_gv arguments_gv nodes all_nodes depth all_depth and_then either must present in_case if_valid harden instead within each every in_turn with_value answers
 returns c = record {
   crossed = refl;
-  both_exact = refl;
-  second_exact = refl;
-  one_better = refl;
-  neither = refl;
+  first_two = refl;
+  other_way = refl;
+  third = refl;
+  by_number = refl;
+  too_many = refl;
 }

@@ -12,8 +12,9 @@ use Rattle.worked_units.proofs.ranking.structs.Goals as goal
 pub returns : goal.returns
 unfolding exactly settled quotient remainder shifted_left shifted_right bitwise unary_result binary_result wrapped converted same_code term_gv arguments_gv nodes all_nodes depth all_depth and_then either must present in_case if_valid harden instead within each every in_turn with_value answers
 returns c = record {
-  first = refl;
-  second = refl;
-  from_scalar = refl;
-  to_scalar = refl;
+  variable = refl;
+  of_const = refl;
+  by_reference = refl;
+  of_int = refl;
+  of_list = refl;
 }
