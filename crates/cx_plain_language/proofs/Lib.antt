@@ -5,3 +5,4 @@ pub mod ExprTexts
 pub mod StmtTexts
 pub mod Numbers
 pub mod LiteralTexts
+pub mod StepsLeft

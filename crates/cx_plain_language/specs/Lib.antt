@@ -3,3 +3,4 @@ pub mod View
 pub mod Text
 pub mod Typing
 pub mod Meaning
+pub mod StepsLeft

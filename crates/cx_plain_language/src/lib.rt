@@ -4,6 +4,7 @@
 
 mod expression;
 mod expressions;
+mod laws;
 mod lookup;
 mod names;
 mod printer;
@@ -14,6 +15,7 @@ mod unit;
 mod units;
 
 pub use expression::Expr;
+pub use laws::bounds;
 pub use printer::print;
 pub use statement::Stmt;
 pub use types::{Declared, Passing, Returns, Type};
