@@ -1,0 +1,2 @@
+pub mod Concepts
+pub mod Levels
