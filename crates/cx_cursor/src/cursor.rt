@@ -7,7 +7,7 @@ ghost use Rattle.cx_syntax.specs.Classes.{any_but};
 ghost use Rattle.cx_syntax.specs.Combinators.{node, note, note_around, enter, leave};
 ghost use Rattle.cx_cursor.specs.Reads.{Reads};
 ghost use Rattle.cx_cursor.specs.Classes.{meaning};
-ghost use Rattle.cx_cursor.specs.Pieces.{piece_tree, head_piece, tail_pieces};
+ghost use Rattle.cx_cursor.specs.Pieces.{piece_tree, pieces_left, head_piece, tail_pieces};
 ghost use Rattle.std.specs.Option.{option_map};
 
 use crate::class::Class;
@@ -190,6 +190,27 @@ impl<'t, 's> Cursor<'t, 's> {
             return Err(Stopped::Deep(piece.token.at));
         }
         Ok(())
+    }
+
+    /// The number of the next node.
+    pub fn next(&self) -> u32
+        ensures { result ≡ self.now.next }
+    {
+        self.next
+    }
+
+    /// The tokens that are left, and whether the first half of the first one is read.
+    pub fn rest(&self) -> (bool, &[Token<'s>])
+        ensures { pieces_left result.0 (map token_tree result.1.now) ≡ self.now.left }
+    {
+        (self.half, self.tokens)
+    }
+
+    /// The names that are known.
+    pub fn into_names(self) -> Scope<'s>
+        ensures { result ≡ self.entry.names }
+    {
+        self.scope
     }
 
     /// Closes the innermost scope.

@@ -2,3 +2,4 @@ pub mod Spelled
 pub mod Tokens
 pub mod Literals
 pub mod Pieces
+pub mod Ends
