@@ -13,4 +13,5 @@ pub mod NumberBounds
 pub mod EvenLaws
 pub mod WholeLaws
 pub mod NumberLaws
+pub mod StatementNumbers
 pub mod NodeLaws

@@ -9,6 +9,11 @@ use Rattle.cx_productions.specs.Levels.{levels}
 use Rattle.cx_productions.specs.Types.{type_id}
 use Rattle.cx_productions.specs.Expressions.{expr}
 use Rattle.cx_productions.specs.Clauses.{clause}
+use Rattle.cx_productions.specs.StatementNodes.{stmt_nodes}
+use Rattle.cx_productions.specs.Statements.{stmt}
+use Rattle.cx_productions.specs.Units.{unit_levels}
+use Rattle.cx_production_laws.proofs.StatementLaws.{within_levels, lawful_stmt}
+use Rattle.cx_production_laws.proofs.StatementNumbers.{counting_within, numbers_stmt}
 use Rattle.cx_syntax_laws.specs.GrammarLaws.{Levelled, IsTree}
 use Rattle.cx_syntax_laws.proofs.Lawful.{Lawful}
 use Rattle.cx_syntax_laws.proofs.Numbering.{From, Made, Numbered}
@@ -42,3 +47,6 @@ nodes_of_type c = numbered_nodes type_nodes (λ n. lawful_type (lower_levels n) 
 
 pub nodes_of_clause : (c : Context) → NumberedNodes expr_nodes (λ n. clause (levels n) c)
 nodes_of_clause c = numbered_nodes expr_nodes (λ n. lawful_clause (lower_levels n) c) (λ n. numbers_clause (counting_levels n) c)
+
+pub nodes_of_stmt : (c : Context) → NumberedNodes stmt_nodes (λ n. stmt (unit_levels n) c)
+nodes_of_stmt c = numbered_nodes stmt_nodes (λ n. lawful_stmt (within_levels n) c) (λ n. numbers_stmt (counting_within n) c)

@@ -40,24 +40,24 @@ abbrev pub numbers : List Mark → List ℕ
 numbers [] = []
 numbers (m ∷ ms) = m.node ∷ numbers ms
 
-numbers_both : (a b : List Mark) → numbers (a ++ b) ≡ numbers a ++ numbers b
+pub numbers_both : (a b : List Mark) → numbers (a ++ b) ≡ numbers a ++ numbers b
 numbers_both [] b = refl
 numbers_both (m ∷ a) b = ap (λ (l : List ℕ). m.node ∷ l) (numbers_both a b)
 
 -- one part and a node; two, three, four
-one_part : (a : List Mark) (m : Mark) → numbers (a ++ m ∷ []) ≡ numbers a ++ m.node ∷ []
+pub one_part : (a : List Mark) (m : Mark) → numbers (a ++ m ∷ []) ≡ numbers a ++ m.node ∷ []
 one_part a m = numbers_both a (m ∷ [])
 
-two_parts : (a b : List Mark) (m : Mark) → numbers ((a ++ b) ++ m ∷ []) ≡ (numbers a ++ numbers b) ++ m.node ∷ []
+pub two_parts : (a b : List Mark) (m : Mark) → numbers ((a ++ b) ++ m ∷ []) ≡ (numbers a ++ numbers b) ++ m.node ∷ []
 two_parts a b m = one_part (a ++ b) m ∙ ap (λ (l : List ℕ). l ++ m.node ∷ []) (numbers_both a b)
 
-three_parts : (a b c : List Mark) (m : Mark) → numbers (((a ++ b) ++ c) ++ m ∷ []) ≡ ((numbers a ++ numbers b) ++ numbers c) ++ m.node ∷ []
+pub three_parts : (a b c : List Mark) (m : Mark) → numbers (((a ++ b) ++ c) ++ m ∷ []) ≡ ((numbers a ++ numbers b) ++ numbers c) ++ m.node ∷ []
 three_parts a b c m = two_parts (a ++ b) c m ∙ ap (λ (l : List ℕ). (l ++ numbers c) ++ m.node ∷ []) (numbers_both a b)
 
-two_nodes : (a : List Mark) (m : Mark) (n : ℕ) → numbers (a ++ m ∷ []) ++ n ∷ [] ≡ (numbers a ++ m.node ∷ []) ++ n ∷ []
+pub two_nodes : (a : List Mark) (m : Mark) (n : ℕ) → numbers (a ++ m ∷ []) ++ n ∷ [] ≡ (numbers a ++ m.node ∷ []) ++ n ∷ []
 two_nodes a m n = ap (λ (l : List ℕ). l ++ n ∷ []) (one_part a m)
 
-ruleset counting = (two_nodes, one_part, two_parts, three_parts)
+pub ruleset counting = (two_nodes, one_part, two_parts, three_parts)
 
 -- ---- lists
 
@@ -142,35 +142,35 @@ silent_scalar_after : (c : Context) (t : Piece) → Silent (scalar_after c t)
 unfolding scalar_after after_sign long_long maybe_int
 silent_scalar_after c t = search silence depth 20
 
-then_scalar_after : (before : List ℕ) {B : Type 0} (of' : B → List ℕ) (c : Context) (t : Piece) (f : _ → Production B) → ((x : _) → Numbered before of' (f x)) → Numbered before of' (scalar_after c t >>= f)
+pub then_scalar_after : (before : List ℕ) {B : Type 0} (of' : B → List ℕ) (c : Context) (t : Piece) (f : _ → Production B) → ((x : _) → Numbered before of' (f x)) → Numbered before of' (scalar_after c t >>= f)
 then_scalar_after before of' c t f k = then_silent before of' f (silent_scalar_after c t) k
 
 pub numbers_scalar : (c : Context) → Numbered [] (λ (x : Core). numbers (core_nodes x.tree)) (scalar_core c)
 unfolding scalar_core word_core long_core after_long_long maybe_int
 numbers_scalar c = search (then_scalar_after, numbering, counting) depth 40 fits 8000
 
-then_scalar : (before : List ℕ) {B : Type 0} (of' : B → List ℕ) (c : Context) (f : Core → Production B) → ((x : Core) → Numbered (before ++ numbers (core_nodes x.tree)) of' (f x)) → Numbered before of' (scalar_core c >>= f)
+pub then_scalar : (before : List ℕ) {B : Type 0} (of' : B → List ℕ) (c : Context) (f : Core → Production B) → ((x : Core) → Numbered (before ++ numbers (core_nodes x.tree)) of' (f x)) → Numbered before of' (scalar_core c >>= f)
 then_scalar before of' c f m = then_own before of' f (λ (x : Core). numbers (core_nodes x.tree)) (numbers_scalar c) m
 
 pub numbers_long : (c : Context) → Numbered [] (λ (x : Core). numbers (core_nodes x.tree)) (long_core c)
 unfolding long_core after_long_long maybe_int
 numbers_long c = search (numbering, counting) depth 40 fits 8000
 
-then_long : (before : List ℕ) {B : Type 0} (of' : B → List ℕ) (c : Context) (f : Core → Production B) → ((x : Core) → Numbered (before ++ numbers (core_nodes x.tree)) of' (f x)) → Numbered before of' (long_core c >>= f)
+pub then_long : (before : List ℕ) {B : Type 0} (of' : B → List ℕ) (c : Context) (f : Core → Production B) → ((x : Core) → Numbered (before ++ numbers (core_nodes x.tree)) of' (f x)) → Numbered before of' (long_core c >>= f)
 then_long before of' c f m = then_own before of' f (λ (x : Core). numbers (core_nodes x.tree)) (numbers_long c) m
 
 silent_names : (c : Context) → Silent (member_names c)
 unfolding member_names member_name more_names
 silent_names c = search silence depth 20
 
-then_names : (before : List ℕ) {B : Type 0} (of' : B → List ℕ) (c : Context) (f : _ → Production B) → ((x : _) → Numbered before of' (f x)) → Numbered before of' (member_names c >>= f)
+pub then_names : (before : List ℕ) {B : Type 0} (of' : B → List ℕ) (c : Context) (f : _ → Production B) → ((x : _) → Numbered before of' (f x)) → Numbered before of' (member_names c >>= f)
 then_names before of' c f k = then_silent before of' f (silent_names c) k
 
 pub numbers_type_after : (c : Context) (at : Place) (before : Bool) (k : Core) → Numbered (numbers (core_nodes k.tree)) (λ (x : TypeTree). numbers (type_nodes x)) (type_after c at before k)
 unfolding type_after const_after
 numbers_type_after c at before k = search (numbering, counting) depth 40 fits 8000
 
-then_type_after : {B : Type 0} (of' : B → List ℕ) (c : Context) (at : Place) (before : Bool) (k : Core) (f : TypeTree → Production B) → ((x : TypeTree) → Numbered (numbers (type_nodes x)) of' (f x)) → Numbered (numbers (core_nodes k.tree)) of' (type_after c at before k >>= f)
+pub then_type_after : {B : Type 0} (of' : B → List ℕ) (c : Context) (at : Place) (before : Bool) (k : Core) (f : TypeTree → Production B) → ((x : TypeTree) → Numbered (numbers (type_nodes x)) of' (f x)) → Numbered (numbers (core_nodes k.tree)) of' (type_after c at before k >>= f)
 then_type_after of' c at before k f m = then_using (numbers (core_nodes k.tree)) of' f (λ (x : TypeTree). numbers (type_nodes x)) (numbers_type_after c at before k) m
 
 silent_operator : (level : ℕ) (c : Context) → Silent (binary_operator level c)
@@ -203,10 +203,10 @@ chain_numbers q sign operand hs ho c first =
         numbered_give ((numbers (expr_nodes x.tree) ++ numbers (expr_nodes right)) ++ m ∷ []) (λ (y : Chain). numbers (expr_nodes y.tree)) _ (two_parts (expr_nodes x.tree) (expr_nodes right) (mark m (place_of x.tree))))))
 
 module _ {b : Below} (l : Counting b) where
-  then_below_expr : (before : List ℕ) {B : Type 0} (of' : B → List ℕ) (level : ℕ) (c : Context) (f : ExprTree → Production B) → ((x : ExprTree) → Numbered (before ++ numbers (expr_nodes x)) of' (f x)) → Numbered before of' (b.expr level c >>= f)
+  pub then_below_expr : (before : List ℕ) {B : Type 0} (of' : B → List ℕ) (level : ℕ) (c : Context) (f : ExprTree → Production B) → ((x : ExprTree) → Numbered (before ++ numbers (expr_nodes x)) of' (f x)) → Numbered before of' (b.expr level c >>= f)
   then_below_expr before of' level c f m = then_own before of' f (λ (x : ExprTree). numbers (expr_nodes x)) (l.expr level c) m
 
-  then_below_argument : (before : List ℕ) {B : Type 0} (of' : B → List ℕ) (c : Context) (f : ArgumentTree → Production B) → ((x : ArgumentTree) → Numbered (before ++ argument_numbers x) of' (f x)) → Numbered before of' (b.argument c >>= f)
+  pub then_below_argument : (before : List ℕ) {B : Type 0} (of' : B → List ℕ) (c : Context) (f : ArgumentTree → Production B) → ((x : ArgumentTree) → Numbered (before ++ argument_numbers x) of' (f x)) → Numbered before of' (b.argument c >>= f)
   then_below_argument before of' c f m = then_own before of' f argument_numbers (l.argument c) m
 
   pub numbers_arguments : (c : Context) → Numbered [] (λ (x : List ArgumentTree). numbers (argument_nodes (arguments x))) (argument_list b c)
@@ -217,42 +217,42 @@ module _ {b : Below} (l : Counting b) where
       then_own [] all _ all (numbered_separated argument_numbers all one_argument last_argument (listed c) (l.argument (listed c))) (λ x.
       token_then (all x) all (deeper c) (closing (listed c).lists) _ (λ greater. numbered_give (all x) all x refl)))
 
-  then_arguments : (before : List ℕ) {B : Type 0} (of' : B → List ℕ) (c : Context) (f : List ArgumentTree → Production B) → ((x : List ArgumentTree) → Numbered (before ++ numbers (argument_nodes (arguments x))) of' (f x)) → Numbered before of' (argument_list b c >>= f)
+  pub then_arguments : (before : List ℕ) {B : Type 0} (of' : B → List ℕ) (c : Context) (f : List ArgumentTree → Production B) → ((x : List ArgumentTree) → Numbered (before ++ numbers (argument_nodes (arguments x))) of' (f x)) → Numbered before of' (argument_list b c >>= f)
   then_arguments before of' c f m = then_own before of' f (λ (x : List ArgumentTree). numbers (argument_nodes (arguments x))) (numbers_arguments c) m
 
   pub numbers_head : (c : Context) → Numbered [] (λ (x : Core). numbers (core_nodes x.tree)) (head_core b c)
   unfolding head_core class_core type_name_core
-  numbers_head c = search (then_arguments, numbers_arguments, numbering, counting) depth 40 fits 8000
+  numbers_head c = search (then_arguments, numbering, counting) depth 40 fits 8000
 
-  then_head : (before : List ℕ) {B : Type 0} (of' : B → List ℕ) (c : Context) (f : Core → Production B) → ((x : Core) → Numbered (before ++ numbers (core_nodes x.tree)) of' (f x)) → Numbered before of' (head_core b c >>= f)
+  pub then_head : (before : List ℕ) {B : Type 0} (of' : B → List ℕ) (c : Context) (f : Core → Production B) → ((x : Core) → Numbered (before ++ numbers (core_nodes x.tree)) of' (f x)) → Numbered before of' (head_core b c >>= f)
   then_head before of' c f m = then_own before of' f (λ (x : Core). numbers (core_nodes x.tree)) (numbers_head c) m
 
   pub numbers_core : (c : Context) → Numbered [] (λ (x : Core). numbers (core_nodes x.tree)) (core b c)
   unfolding core member_core decltype_core void_core as_type head_core class_core type_name_core
-  numbers_core c = search (then_arguments, numbers_arguments, then_names, then_scalar, numbers_scalar, then_below_expr, l.expr, numbering, counting) depth 40 fits 8000
+  numbers_core c = search (then_arguments, then_names, numbers_scalar, then_below_expr, numbering, counting) depth 40 fits 8000
 
-  then_core : (before : List ℕ) {B : Type 0} (of' : B → List ℕ) (c : Context) (f : Core → Production B) → ((x : Core) → Numbered (before ++ numbers (core_nodes x.tree)) of' (f x)) → Numbered before of' (core b c >>= f)
+  pub then_core : (before : List ℕ) {B : Type 0} (of' : B → List ℕ) (c : Context) (f : Core → Production B) → ((x : Core) → Numbered (before ++ numbers (core_nodes x.tree)) of' (f x)) → Numbered before of' (core b c >>= f)
   then_core before of' c f m = then_own before of' f (λ (x : Core). numbers (core_nodes x.tree)) (numbers_core c) m
 
   pub numbers_type : (c : Context) → Numbered [] (λ (x : TypeTree). numbers (type_nodes x)) (type_id b c)
   unfolding type_id const_type plain_type core member_core decltype_core void_core head_core class_core type_name_core
-  numbers_type c = search (then_core, numbers_core, then_type_after, numbers_type_after, numbering, counting) depth 40 fits 8000
+  numbers_type c = search (then_core, numbers_type_after, numbering, counting) depth 40 fits 8000
 
-  then_type : (before : List ℕ) {B : Type 0} (of' : B → List ℕ) (c : Context) (f : TypeTree → Production B) → ((x : TypeTree) → Numbered (before ++ numbers (type_nodes x)) of' (f x)) → Numbered before of' (type_id b c >>= f)
+  pub then_type : (before : List ℕ) {B : Type 0} (of' : B → List ℕ) (c : Context) (f : TypeTree → Production B) → ((x : TypeTree) → Numbered (before ++ numbers (type_nodes x)) of' (f x)) → Numbered before of' (type_id b c >>= f)
   then_type before of' c f m = then_own before of' f (λ (x : TypeTree). numbers (type_nodes x)) (numbers_type c) m
 
 pub numbers_as_type : (k : Core) → Numbered (numbers (core_nodes k.tree)) (λ (x : TypeTree). numbers (type_nodes x)) (as_type k)
 unfolding as_type
 numbers_as_type k = search (numbering, counting) depth 40 fits 8000
 
-then_as_type : {B : Type 0} (of' : B → List ℕ) (k : Core) (f : TypeTree → Production B) → ((x : TypeTree) → Numbered (numbers (type_nodes x)) of' (f x)) → Numbered (numbers (core_nodes k.tree)) of' (as_type k >>= f)
+pub then_as_type : {B : Type 0} (of' : B → List ℕ) (k : Core) (f : TypeTree → Production B) → ((x : TypeTree) → Numbered (numbers (type_nodes x)) of' (f x)) → Numbered (numbers (core_nodes k.tree)) of' (as_type k >>= f)
 then_as_type of' k f m = then_using (numbers (core_nodes k.tree)) of' f (λ (x : TypeTree). numbers (type_nodes x)) (numbers_as_type k) m
 
 pub numbers_local_after : (c : Context) (of : TypeTree) → Numbered (numbers (type_nodes of)) (λ (x : LocalTree). local_numbers x) (local_after c of)
 unfolding local_after
 numbers_local_after c of = search (numbering, counting) depth 40 fits 8000
 
-then_local_after : {B : Type 0} (of' : B → List ℕ) (c : Context) (of : TypeTree) (f : LocalTree → Production B) → ((x : LocalTree) → Numbered (local_numbers x) of' (f x)) → Numbered (numbers (type_nodes of)) of' (local_after c of >>= f)
+pub then_local_after : {B : Type 0} (of' : B → List ℕ) (c : Context) (of : TypeTree) (f : LocalTree → Production B) → ((x : LocalTree) → Numbered (local_numbers x) of' (f x)) → Numbered (numbers (type_nodes of)) of' (local_after c of >>= f)
 then_local_after of' c of f m = then_using (numbers (type_nodes of)) of' f (λ (x : LocalTree). local_numbers x) (numbers_local_after c of) m
 
 module _ {b : Below} (l : Counting b) where
@@ -262,52 +262,52 @@ module _ {b : Below} (l : Counting b) where
       let all : List ExprTree → List ℕ = λ x. numbers (exprs_nodes (exprs x)) in
       numbered_when [] all close (numbered_give [] all [] refl) (numbered_separated (λ (x : ExprTree). numbers (expr_nodes x)) all one_expr last_expr c (l.expr expression_level c))
 
-  then_exprs : (before : List ℕ) {B : Type 0} (of' : B → List ℕ) (close : Class) (c : Context) (f : List ExprTree → Production B) → ((x : List ExprTree) → Numbered (before ++ numbers (exprs_nodes (exprs x))) of' (f x)) → Numbered before of' (expr_list close b c >>= f)
+  pub then_exprs : (before : List ℕ) {B : Type 0} (of' : B → List ℕ) (close : Class) (c : Context) (f : List ExprTree → Production B) → ((x : List ExprTree) → Numbered (before ++ numbers (exprs_nodes (exprs x))) of' (f x)) → Numbered before of' (expr_list close b c >>= f)
   then_exprs before of' close c f m = then_own before of' f (λ (x : List ExprTree). numbers (exprs_nodes (exprs x))) (numbers_exprs close c) m
 
   pub numbers_list_after : (c : Context) (k : Core) → Numbered (numbers (core_nodes k.tree)) (λ (x : ExprTree). numbers (expr_nodes x)) (list_after b c k)
   unfolding list_after as_type
-  numbers_list_after c k = search (then_as_type, numbers_as_type, then_exprs, numbers_exprs, numbering, counting) depth 40 fits 8000
+  numbers_list_after c k = search (then_as_type, then_exprs, numbering, counting) depth 40 fits 8000
 
-  then_list_after : {B : Type 0} (of' : B → List ℕ) (c : Context) (k : Core) (f : ExprTree → Production B) → ((x : ExprTree) → Numbered (numbers (expr_nodes x)) of' (f x)) → Numbered (numbers (core_nodes k.tree)) of' (list_after b c k >>= f)
+  pub then_list_after : {B : Type 0} (of' : B → List ℕ) (c : Context) (k : Core) (f : ExprTree → Production B) → ((x : ExprTree) → Numbered (numbers (expr_nodes x)) of' (f x)) → Numbered (numbers (core_nodes k.tree)) of' (list_after b c k >>= f)
   then_list_after of' c k f m = then_using (numbers (core_nodes k.tree)) of' f (λ (x : ExprTree). numbers (expr_nodes x)) (numbers_list_after c k) m
 
   -- after a scalar, whose core has no node
-  numbers_scalar_list : (c : Context) (t : Piece) (s : Scalar) → Numbered [] (λ (x : ExprTree). numbers (expr_nodes x)) (list_after b c (scalar_at t s))
+  pub numbers_scalar_list : (c : Context) (t : Piece) (s : Scalar) → Numbered [] (λ (x : ExprTree). numbers (expr_nodes x)) (list_after b c (scalar_at t s))
   numbers_scalar_list c t s = numbers_list_after c (scalar_at t s)
 
-  then_scalar_list : {B : Type 0} (of' : B → List ℕ) (c : Context) (t : Piece) (s : Scalar) (f : ExprTree → Production B) → ((x : ExprTree) → Numbered (numbers (expr_nodes x)) of' (f x)) → Numbered [] of' (list_after b c (scalar_at t s) >>= f)
+  pub then_scalar_list : {B : Type 0} (of' : B → List ℕ) (c : Context) (t : Piece) (s : Scalar) (f : ExprTree → Production B) → ((x : ExprTree) → Numbered (numbers (expr_nodes x)) of' (f x)) → Numbered [] of' (list_after b c (scalar_at t s) >>= f)
   then_scalar_list of' c t s f m = then_list_after of' c (scalar_at t s) f m
 
-  then_scalar_type : {B : Type 0} (of' : B → List ℕ) (c : Context) (at : Place) (before : Bool) (t : Piece) (s : Scalar) (f : TypeTree → Production B) → ((x : TypeTree) → Numbered (numbers (type_nodes x)) of' (f x)) → Numbered [] of' (type_after c at before (scalar_at t s) >>= f)
+  pub then_scalar_type : {B : Type 0} (of' : B → List ℕ) (c : Context) (at : Place) (before : Bool) (t : Piece) (s : Scalar) (f : TypeTree → Production B) → ((x : TypeTree) → Numbered (numbers (type_nodes x)) of' (f x)) → Numbered [] of' (type_after c at before (scalar_at t s) >>= f)
   then_scalar_type of' c at before t s f m = then_type_after of' c at before (scalar_at t s) f m
 
   pub numbers_after_head : (c : Context) (k : Core) → Numbered (numbers (core_nodes k.tree)) (λ (x : ExprTree). numbers (expr_nodes x)) (after_head b c k)
   unfolding after_head names_after as_type
-  numbers_after_head c k = search (then_list_after, numbers_list_after, then_as_type, numbers_as_type, then_names, numbering, counting) depth 40 fits 8000
+  numbers_after_head c k = search (numbers_list_after, then_as_type, then_names, numbering, counting) depth 40 fits 8000
 
-  then_after_head : {B : Type 0} (of' : B → List ℕ) (c : Context) (k : Core) (f : ExprTree → Production B) → ((x : ExprTree) → Numbered (numbers (expr_nodes x)) of' (f x)) → Numbered (numbers (core_nodes k.tree)) of' (after_head b c k >>= f)
+  pub then_after_head : {B : Type 0} (of' : B → List ℕ) (c : Context) (k : Core) (f : ExprTree → Production B) → ((x : ExprTree) → Numbered (numbers (expr_nodes x)) of' (f x)) → Numbered (numbers (core_nodes k.tree)) of' (after_head b c k >>= f)
   then_after_head of' c k f m = then_using (numbers (core_nodes k.tree)) of' f (λ (x : ExprTree). numbers (expr_nodes x)) (numbers_after_head c k) m
 
   pub numbers_template_name : (kind : NameKind) (calls : Calling) (c : Context) → Numbered [] (λ (x : Operand). numbers (expr_nodes x.tree)) (template_name kind calls b c)
   unfolding template_name
-  numbers_template_name kind calls c = search (then_arguments, numbers_arguments, numbering, counting) depth 40 fits 8000
+  numbers_template_name kind calls c = search (then_arguments, numbering, counting) depth 40 fits 8000
 
-  then_template_name : (before : List ℕ) {B : Type 0} (of' : B → List ℕ) (kind : NameKind) (calls : Calling) (c : Context) (f : Operand → Production B) → ((x : Operand) → Numbered (before ++ numbers (expr_nodes x.tree)) of' (f x)) → Numbered before of' (template_name kind calls b c >>= f)
+  pub then_template_name : (before : List ℕ) {B : Type 0} (of' : B → List ℕ) (kind : NameKind) (calls : Calling) (c : Context) (f : Operand → Production B) → ((x : Operand) → Numbered (before ++ numbers (expr_nodes x.tree)) of' (f x)) → Numbered before of' (template_name kind calls b c >>= f)
   then_template_name before of' kind calls c f m = then_own before of' f (λ (x : Operand). numbers (expr_nodes x.tree)) (numbers_template_name kind calls c) m
 
   pub numbers_constraint : (c : Context) → Numbered [] (λ (x : ConstraintTree). numbers (constraint_nodes x)) (constraint b c)
   unfolding constraint
-  numbers_constraint c = search (then_arguments, numbers_arguments, numbering, counting) depth 40 fits 8000
+  numbers_constraint c = search (then_arguments, numbering, counting) depth 40 fits 8000
 
-  then_constraint : (before : List ℕ) {B : Type 0} (of' : B → List ℕ) (c : Context) (f : ConstraintTree → Production B) → ((x : ConstraintTree) → Numbered (before ++ numbers (constraint_nodes x)) of' (f x)) → Numbered before of' (constraint b c >>= f)
+  pub then_constraint : (before : List ℕ) {B : Type 0} (of' : B → List ℕ) (c : Context) (f : ConstraintTree → Production B) → ((x : ConstraintTree) → Numbered (before ++ numbers (constraint_nodes x)) of' (f x)) → Numbered before of' (constraint b c >>= f)
   then_constraint before of' c f m = then_own before of' f (λ (x : ConstraintTree). numbers (constraint_nodes x)) (numbers_constraint c) m
 
   pub numbers_local : (c : Context) → Numbered [] (λ (x : LocalTree). local_numbers x) (local b c)
   unfolding local
-  numbers_local c = search (then_type, numbers_type, then_local_after, numbers_local_after, numbering, counting) depth 40 fits 8000
+  numbers_local c = search (then_type, numbers_local_after, numbering, counting) depth 40 fits 8000
 
-  then_local : (before : List ℕ) {B : Type 0} (of' : B → List ℕ) (c : Context) (f : LocalTree → Production B) → ((x : LocalTree) → Numbered (before ++ local_numbers x) of' (f x)) → Numbered before of' (local b c >>= f)
+  pub then_local : (before : List ℕ) {B : Type 0} (of' : B → List ℕ) (c : Context) (f : LocalTree → Production B) → ((x : LocalTree) → Numbered (before ++ local_numbers x) of' (f x)) → Numbered before of' (local b c >>= f)
   then_local before of' c f m = then_own before of' f (λ (x : LocalTree). local_numbers x) (numbers_local c) m
 
   pub numbers_locals : (c : Context) → Numbered [] (λ (x : List LocalTree). numbers (locals_nodes (locals x))) (local_list b c)
@@ -324,28 +324,28 @@ module _ {b : Below} (l : Counting b) where
       numbered_separated_after local_numbers all one_local last_local c (numbers_local c) first))))))
       (numbered_separated local_numbers all one_local last_local c (numbers_local c)))
 
-  then_locals : (before : List ℕ) {B : Type 0} (of' : B → List ℕ) (c : Context) (f : List LocalTree → Production B) → ((x : List LocalTree) → Numbered (before ++ numbers (locals_nodes (locals x))) of' (f x)) → Numbered before of' (local_list b c >>= f)
+  pub then_locals : (before : List ℕ) {B : Type 0} (of' : B → List ℕ) (c : Context) (f : List LocalTree → Production B) → ((x : List LocalTree) → Numbered (before ++ numbers (locals_nodes (locals x))) of' (f x)) → Numbered before of' (local_list b c >>= f)
   then_locals before of' c f m = then_own before of' f (λ (x : List LocalTree). numbers (locals_nodes (locals x))) (numbers_locals c) m
 
   pub numbers_maybe_locals : (c : Context) → Numbered [] (λ (x : List LocalTree). numbers (locals_nodes (locals x))) (maybe_locals b c)
   unfolding maybe_locals
-  numbers_maybe_locals c = search (then_locals, numbers_locals, numbering, counting) depth 40 fits 8000
+  numbers_maybe_locals c = search (then_locals, numbering, counting) depth 40 fits 8000
 
-  then_maybe_locals : (before : List ℕ) {B : Type 0} (of' : B → List ℕ) (c : Context) (f : List LocalTree → Production B) → ((x : List LocalTree) → Numbered (before ++ numbers (locals_nodes (locals x))) of' (f x)) → Numbered before of' (maybe_locals b c >>= f)
+  pub then_maybe_locals : (before : List ℕ) {B : Type 0} (of' : B → List ℕ) (c : Context) (f : List LocalTree → Production B) → ((x : List LocalTree) → Numbered (before ++ numbers (locals_nodes (locals x))) of' (f x)) → Numbered before of' (maybe_locals b c >>= f)
   then_maybe_locals before of' c f m = then_own before of' f (λ (x : List LocalTree). numbers (locals_nodes (locals x))) (numbers_maybe_locals c) m
 
   pub numbers_required_core : (c : Context) (first : Piece) → Numbered [] (λ (x : Core). numbers (core_nodes x.tree)) (required_core b c first)
   unfolding required_core class_core type_name_core required_member as_type
-  numbers_required_core c first = search (then_arguments, numbers_arguments, then_names, numbering, counting) depth 40 fits 8000
+  numbers_required_core c first = search (then_arguments, then_names, numbering, counting) depth 40 fits 8000
 
-  then_required_core : (before : List ℕ) {B : Type 0} (of' : B → List ℕ) (c : Context) (first : Piece) (f : Core → Production B) → ((x : Core) → Numbered (before ++ numbers (core_nodes x.tree)) of' (f x)) → Numbered before of' (required_core b c first >>= f)
+  pub then_required_core : (before : List ℕ) {B : Type 0} (of' : B → List ℕ) (c : Context) (first : Piece) (f : Core → Production B) → ((x : Core) → Numbered (before ++ numbers (core_nodes x.tree)) of' (f x)) → Numbered before of' (required_core b c first >>= f)
   then_required_core before of' c first f m = then_own before of' f (λ (x : Core). numbers (core_nodes x.tree)) (numbers_required_core c first) m
 
   pub numbers_requirement : (c : Context) → Numbered [] (λ (x : RequirementTree). requirement_numbers x) (requirement b c)
   unfolding requirement type_requirement nested_requirement compound_requirement simple_requirement result_constraint
-  numbers_requirement c = search (then_required_core, numbers_required_core, then_constraint, numbers_constraint, then_below_expr, l.expr, numbering, counting) depth 40 fits 8000
+  numbers_requirement c = search (then_required_core, then_constraint, then_below_expr, numbering, counting) depth 40 fits 8000
 
-  then_requirement : (before : List ℕ) {B : Type 0} (of' : B → List ℕ) (c : Context) (f : RequirementTree → Production B) → ((x : RequirementTree) → Numbered (before ++ requirement_numbers x) of' (f x)) → Numbered before of' (requirement b c >>= f)
+  pub then_requirement : (before : List ℕ) {B : Type 0} (of' : B → List ℕ) (c : Context) (f : RequirementTree → Production B) → ((x : RequirementTree) → Numbered (before ++ requirement_numbers x) of' (f x)) → Numbered before of' (requirement b c >>= f)
   then_requirement before of' c f m = then_own before of' f (λ (x : RequirementTree). requirement_numbers x) (numbers_requirement c) m
 
   pub numbers_requirements : (c : Context) → Numbered [] (λ (x : List RequirementTree). numbers (requirements_nodes (requirements x))) (requirement_list b c)
@@ -355,42 +355,42 @@ module _ {b : Below} (l : Counting b) where
       then_own [] all _ requirement_numbers (numbers_requirement (deeper c)) (λ first.
       numbered_from (sym (one_requirement first)) (numbered_items requirement_numbers all one_requirement last_requirement (λ so_far. any_but (punct punctuator.RightBrace)) (numbers_requirement (deeper c)) (first ∷ [])))
 
-  then_requirements : (before : List ℕ) {B : Type 0} (of' : B → List ℕ) (c : Context) (f : List RequirementTree → Production B) → ((x : List RequirementTree) → Numbered (before ++ numbers (requirements_nodes (requirements x))) of' (f x)) → Numbered before of' (requirement_list b c >>= f)
+  pub then_requirements : (before : List ℕ) {B : Type 0} (of' : B → List ℕ) (c : Context) (f : List RequirementTree → Production B) → ((x : List RequirementTree) → Numbered (before ++ numbers (requirements_nodes (requirements x))) of' (f x)) → Numbered before of' (requirement_list b c >>= f)
   then_requirements before of' c f m = then_own before of' f (λ (x : List RequirementTree). numbers (requirements_nodes (requirements x))) (numbers_requirements c) m
 
   pub numbers_requires : (c : Context) → Numbered [] (λ (x : ExprTree). numbers (expr_nodes x)) (requires_expr b c)
   unfolding requires_expr
-  numbers_requires c = search (then_maybe_locals, numbers_maybe_locals, then_requirements, numbers_requirements, numbering, counting) depth 40 fits 8000
+  numbers_requires c = search (then_maybe_locals, then_requirements, numbering, counting) depth 40 fits 8000
 
-  then_requires : (before : List ℕ) {B : Type 0} (of' : B → List ℕ) (c : Context) (f : ExprTree → Production B) → ((x : ExprTree) → Numbered (before ++ numbers (expr_nodes x)) of' (f x)) → Numbered before of' (requires_expr b c >>= f)
+  pub then_requires : (before : List ℕ) {B : Type 0} (of' : B → List ℕ) (c : Context) (f : ExprTree → Production B) → ((x : ExprTree) → Numbered (before ++ numbers (expr_nodes x)) of' (f x)) → Numbered before of' (requires_expr b c >>= f)
   then_requires before of' c f m = then_own before of' f (λ (x : ExprTree). numbers (expr_nodes x)) (numbers_requires c) m
 
   pub numbers_word_primary : (c : Context) → Numbered [] (λ (x : ExprTree). numbers (expr_nodes x)) (word_primary b c)
   unfolding word_primary truth is_same out group requires_expr
-  numbers_word_primary c = search (then_requires, numbers_requires, then_type, numbers_type, then_below_expr, l.expr, numbering, counting) depth 40 fits 8000
+  numbers_word_primary c = search (numbers_requires, then_type, then_below_expr, numbering, counting) depth 40 fits 8000
 
-  then_word_primary : (before : List ℕ) {B : Type 0} (of' : B → List ℕ) (c : Context) (f : ExprTree → Production B) → ((x : ExprTree) → Numbered (before ++ numbers (expr_nodes x)) of' (f x)) → Numbered before of' (word_primary b c >>= f)
+  pub then_word_primary : (before : List ℕ) {B : Type 0} (of' : B → List ℕ) (c : Context) (f : ExprTree → Production B) → ((x : ExprTree) → Numbered (before ++ numbers (expr_nodes x)) of' (f x)) → Numbered before of' (word_primary b c >>= f)
   then_word_primary before of' c f m = then_own before of' f (λ (x : ExprTree). numbers (expr_nodes x)) (numbers_word_primary c) m
 
   pub numbers_simple : (c : Context) → Numbered [] (λ (x : Operand). numbers (expr_nodes x.tree)) (simple_primary b c)
   unfolding simple_primary int_literal template_name name_alone
-  numbers_simple c = search (then_word_primary, numbers_word_primary, then_template_name, numbers_template_name, numbering, counting) depth 40 fits 8000
+  numbers_simple c = search (then_word_primary, numbers_template_name, numbering, counting) depth 40 fits 8000
 
-  then_simple : (before : List ℕ) {B : Type 0} (of' : B → List ℕ) (c : Context) (f : Operand → Production B) → ((x : Operand) → Numbered (before ++ numbers (expr_nodes x.tree)) of' (f x)) → Numbered before of' (simple_primary b c >>= f)
+  pub then_simple : (before : List ℕ) {B : Type 0} (of' : B → List ℕ) (c : Context) (f : Operand → Production B) → ((x : Operand) → Numbered (before ++ numbers (expr_nodes x.tree)) of' (f x)) → Numbered before of' (simple_primary b c >>= f)
   then_simple before of' c f m = then_own before of' f (λ (x : Operand). numbers (expr_nodes x.tree)) (numbers_simple c) m
 
   pub numbers_primary : (c : Context) → Numbered [] (λ (x : Operand). numbers (expr_nodes x.tree)) (primary b c)
   unfolding primary head_primary core_primary scalar_primary static_cast
-  numbers_primary c = search (then_scalar_list, numbers_scalar_list, then_simple, numbers_simple, then_after_head, numbers_after_head, then_list_after, numbers_list_after, then_head, numbers_head, then_core, numbers_core, then_type, numbers_type, then_below_expr, l.expr, numbering, counting) depth 40 fits 8000
+  numbers_primary c = search (then_scalar_list, numbers_simple, then_after_head, then_list_after, then_head, then_core, then_type, then_below_expr, numbering, counting) depth 40 fits 8000
 
-  then_primary : (before : List ℕ) {B : Type 0} (of' : B → List ℕ) (c : Context) (f : Operand → Production B) → ((x : Operand) → Numbered (before ++ numbers (expr_nodes x.tree)) of' (f x)) → Numbered before of' (primary b c >>= f)
+  pub then_primary : (before : List ℕ) {B : Type 0} (of' : B → List ℕ) (c : Context) (f : Operand → Production B) → ((x : Operand) → Numbered (before ++ numbers (expr_nodes x.tree)) of' (f x)) → Numbered before of' (primary b c >>= f)
   then_primary before of' c f m = then_own before of' f (λ (x : Operand). numbers (expr_nodes x.tree)) (numbers_primary c) m
 
   pub numbers_call : (x : Postfix) → Numbered (numbers (expr_nodes x.tree)) (λ (y : Postfix). numbers (expr_nodes y.tree)) (call b x)
   unfolding call
-  numbers_call x = search (then_exprs, numbers_exprs, numbering, counting) depth 40 fits 8000
+  numbers_call x = search (then_exprs, numbering, counting) depth 40 fits 8000
 
-  then_call : {B : Type 0} (of' : B → List ℕ) (x : Postfix) (f : Postfix → Production B) → ((y : Postfix) → Numbered (numbers (expr_nodes y.tree)) of' (f y)) → Numbered (numbers (expr_nodes x.tree)) of' (call b x >>= f)
+  pub then_call : {B : Type 0} (of' : B → List ℕ) (x : Postfix) (f : Postfix → Production B) → ((y : Postfix) → Numbered (numbers (expr_nodes y.tree)) of' (f y)) → Numbered (numbers (expr_nodes x.tree)) of' (call b x >>= f)
   then_call of' x f m = then_using (numbers (expr_nodes x.tree)) of' f (λ (y : Postfix). numbers (expr_nodes y.tree)) (numbers_call x) m
 
   numbers_postfix_turn : (x : Postfix) → Numbered (numbers (expr_nodes x.tree)) (λ (y : Postfix). numbers (expr_nodes y.tree)) (postfix_turn b x)
@@ -409,24 +409,24 @@ module _ {b : Below} (l : Counting b) where
       then_using (numbers (expr_nodes operand.tree)) all _ of (numbers_needed_call (record { tree = operand.tree; calling = operand.calling; within = c })) (λ first.
       then_using (of first) all _ of (numbered_repeat of continues_postfix numbers_postfix_turn first) (λ x. numbered_give (of x) all x.tree refl))
 
-  then_postfix_after : {B : Type 0} (of' : B → List ℕ) (c : Context) (operand : Operand) (f : ExprTree → Production B) → ((x : ExprTree) → Numbered (numbers (expr_nodes x)) of' (f x)) → Numbered (numbers (expr_nodes operand.tree)) of' (postfix_after b c operand >>= f)
+  pub then_postfix_after : {B : Type 0} (of' : B → List ℕ) (c : Context) (operand : Operand) (f : ExprTree → Production B) → ((x : ExprTree) → Numbered (numbers (expr_nodes x)) of' (f x)) → Numbered (numbers (expr_nodes operand.tree)) of' (postfix_after b c operand >>= f)
   then_postfix_after of' c operand f m = then_using (numbers (expr_nodes operand.tree)) of' f (λ (x : ExprTree). numbers (expr_nodes x)) (numbers_postfix_after c operand) m
 
   pub numbers_unary : (c : Context) → Numbered [] (λ (x : ExprTree). numbers (expr_nodes x)) (unary b c)
   unfolding unary prefixed postfix
-  numbers_unary c = search (then_primary, numbers_primary, then_postfix_after, numbers_postfix_after, then_below_expr, l.expr, numbering, counting) depth 40 fits 8000
+  numbers_unary c = search (then_primary, numbers_postfix_after, then_below_expr, numbering, counting) depth 40 fits 8000
 
-  then_unary : (before : List ℕ) {B : Type 0} (of' : B → List ℕ) (c : Context) (f : ExprTree → Production B) → ((x : ExprTree) → Numbered (before ++ numbers (expr_nodes x)) of' (f x)) → Numbered before of' (unary b c >>= f)
+  pub then_unary : (before : List ℕ) {B : Type 0} (of' : B → List ℕ) (c : Context) (f : ExprTree → Production B) → ((x : ExprTree) → Numbered (before ++ numbers (expr_nodes x)) of' (f x)) → Numbered before of' (unary b c >>= f)
   then_unary before of' c f m = then_own before of' f (λ (x : ExprTree). numbers (expr_nodes x)) (numbers_unary c) m
 
-  then_operator : (before : List ℕ) {B : Type 0} (of' : B → List ℕ) (level : ℕ) (c : Context) (f : _ → Production B) → ((x : _) → Numbered before of' (f x)) → Numbered before of' (binary_operator level c >>= f)
+  pub then_operator : (before : List ℕ) {B : Type 0} (of' : B → List ℕ) (level : ℕ) (c : Context) (f : _ → Production B) → ((x : _) → Numbered before of' (f x)) → Numbered before of' (binary_operator level c >>= f)
   then_operator before of' level c f k = then_silent before of' f (silent_operator level c) k
 
   pub numbers_chain : (level : ℕ) (c : Context) (e : ExprTree) → Numbered (numbers (expr_nodes e)) (λ (x : ExprTree). numbers (expr_nodes x)) (binary_chain b level c e)
   unfolding binary_chain
   numbers_chain level c e = chain_numbers (λ c. operator (suc level) c.lists) (binary_operator (suc level)) (b.expr level) (silent_operator (suc level)) (l.expr level) c e
 
-  then_chain : {B : Type 0} (of' : B → List ℕ) (level : ℕ) (c : Context) (e : ExprTree) (f : ExprTree → Production B) → ((x : ExprTree) → Numbered (numbers (expr_nodes x)) of' (f x)) → Numbered (numbers (expr_nodes e)) of' (binary_chain b level c e >>= f)
+  pub then_chain : {B : Type 0} (of' : B → List ℕ) (level : ℕ) (c : Context) (e : ExprTree) (f : ExprTree → Production B) → ((x : ExprTree) → Numbered (numbers (expr_nodes x)) of' (f x)) → Numbered (numbers (expr_nodes e)) of' (binary_chain b level c e >>= f)
   then_chain of' level c e f m = then_using (numbers (expr_nodes e)) of' f (λ (x : ExprTree). numbers (expr_nodes x)) (numbers_chain level c e) m
 
   pub numbers_binary_after : (level : ℕ) (c : Context) (e : ExprTree) → Numbered (numbers (expr_nodes e)) (λ (x : ExprTree). numbers (expr_nodes x)) (binary_after b level c e)
@@ -434,52 +434,52 @@ module _ {b : Below} (l : Counting b) where
   numbers_binary_after zero c e = numbered_give (numbers (expr_nodes e)) (λ (x : ExprTree). numbers (expr_nodes x)) e refl
   numbers_binary_after (suc level) c e = then_using (numbers (expr_nodes e)) (λ (x : ExprTree). numbers (expr_nodes x)) (binary_chain b level c) (λ (x : ExprTree). numbers (expr_nodes x)) (numbers_binary_after level c e) (numbers_chain level c)
 
-  then_binary_after : {B : Type 0} (of' : B → List ℕ) (level : ℕ) (c : Context) (e : ExprTree) (f : ExprTree → Production B) → ((x : ExprTree) → Numbered (numbers (expr_nodes x)) of' (f x)) → Numbered (numbers (expr_nodes e)) of' (binary_after b level c e >>= f)
+  pub then_binary_after : {B : Type 0} (of' : B → List ℕ) (level : ℕ) (c : Context) (e : ExprTree) (f : ExprTree → Production B) → ((x : ExprTree) → Numbered (numbers (expr_nodes x)) of' (f x)) → Numbered (numbers (expr_nodes e)) of' (binary_after b level c e >>= f)
   then_binary_after of' level c e f m = then_using (numbers (expr_nodes e)) of' f (λ (x : ExprTree). numbers (expr_nodes x)) (numbers_binary_after level c e) m
 
   pub numbers_choice_after : (c : Context) (e : ExprTree) → Numbered (numbers (expr_nodes e)) (λ (x : ExprTree). numbers (expr_nodes x)) (choice_after b c e)
   unfolding choice_after conditional assignment
-  numbers_choice_after c e = search (then_below_expr, l.expr, numbering, counting) depth 40 fits 8000
+  numbers_choice_after c e = search (then_below_expr, numbering, counting) depth 40 fits 8000
 
-  then_choice_after : {B : Type 0} (of' : B → List ℕ) (c : Context) (e : ExprTree) (f : ExprTree → Production B) → ((x : ExprTree) → Numbered (numbers (expr_nodes x)) of' (f x)) → Numbered (numbers (expr_nodes e)) of' (choice_after b c e >>= f)
+  pub then_choice_after : {B : Type 0} (of' : B → List ℕ) (c : Context) (e : ExprTree) (f : ExprTree → Production B) → ((x : ExprTree) → Numbered (numbers (expr_nodes x)) of' (f x)) → Numbered (numbers (expr_nodes e)) of' (choice_after b c e >>= f)
   then_choice_after of' c e f m = then_using (numbers (expr_nodes e)) of' f (λ (x : ExprTree). numbers (expr_nodes x)) (numbers_choice_after c e) m
 
   pub numbers_expr_after : (c : Context) (e : ExprTree) → Numbered (numbers (expr_nodes e)) (λ (x : ExprTree). numbers (expr_nodes x)) (expr_after b c e)
   unfolding expr_after
   numbers_expr_after c e = then_using (numbers (expr_nodes e)) (λ (x : ExprTree). numbers (expr_nodes x)) (choice_after b c) (λ (x : ExprTree). numbers (expr_nodes x)) (numbers_binary_after 10 c e) (numbers_choice_after c)
 
-  then_expr_after : {B : Type 0} (of' : B → List ℕ) (c : Context) (e : ExprTree) (f : ExprTree → Production B) → ((x : ExprTree) → Numbered (numbers (expr_nodes x)) of' (f x)) → Numbered (numbers (expr_nodes e)) of' (expr_after b c e >>= f)
+  pub then_expr_after : {B : Type 0} (of' : B → List ℕ) (c : Context) (e : ExprTree) (f : ExprTree → Production B) → ((x : ExprTree) → Numbered (numbers (expr_nodes x)) of' (f x)) → Numbered (numbers (expr_nodes e)) of' (expr_after b c e >>= f)
   then_expr_after of' c e f m = then_using (numbers (expr_nodes e)) of' f (λ (x : ExprTree). numbers (expr_nodes x)) (numbers_expr_after c e) m
 
   pub numbers_expr : (level : ℕ) (c : Context) → Numbered [] (λ (x : ExprTree). numbers (expr_nodes x)) (expr b level c)
   unfolding expr
-  numbers_expr level c = search (then_unary, numbers_unary, then_expr_after, numbers_expr_after, then_binary_after, numbers_binary_after, numbering, counting) depth 40 fits 8000
+  numbers_expr level c = search (then_unary, numbers_expr_after, numbers_binary_after, numbering, counting) depth 40 fits 8000
 
-  then_expr : (before : List ℕ) {B : Type 0} (of' : B → List ℕ) (level : ℕ) (c : Context) (f : ExprTree → Production B) → ((x : ExprTree) → Numbered (before ++ numbers (expr_nodes x)) of' (f x)) → Numbered before of' (expr b level c >>= f)
+  pub then_expr : (before : List ℕ) {B : Type 0} (of' : B → List ℕ) (level : ℕ) (c : Context) (f : ExprTree → Production B) → ((x : ExprTree) → Numbered (before ++ numbers (expr_nodes x)) of' (f x)) → Numbered before of' (expr b level c >>= f)
   then_expr before of' level c f m = then_own before of' f (λ (x : ExprTree). numbers (expr_nodes x)) (numbers_expr level c) m
 
   pub numbers_expr_of : (c : Context) (operand : Operand) → Numbered (numbers (expr_nodes operand.tree)) (λ (x : ExprTree). numbers (expr_nodes x)) (expr_of b c operand)
   unfolding expr_of
-  numbers_expr_of c operand = search (then_postfix_after, numbers_postfix_after, then_expr_after, numbers_expr_after, numbering, counting) depth 40 fits 8000
+  numbers_expr_of c operand = search (then_postfix_after, numbers_expr_after, numbering, counting) depth 40 fits 8000
 
-  then_expr_of : {B : Type 0} (of' : B → List ℕ) (c : Context) (operand : Operand) (f : ExprTree → Production B) → ((x : ExprTree) → Numbered (numbers (expr_nodes x)) of' (f x)) → Numbered (numbers (expr_nodes operand.tree)) of' (expr_of b c operand >>= f)
+  pub then_expr_of : {B : Type 0} (of' : B → List ℕ) (c : Context) (operand : Operand) (f : ExprTree → Production B) → ((x : ExprTree) → Numbered (numbers (expr_nodes x)) of' (f x)) → Numbered (numbers (expr_nodes operand.tree)) of' (expr_of b c operand >>= f)
   then_expr_of of' c operand f m = then_using (numbers (expr_nodes operand.tree)) of' f (λ (x : ExprTree). numbers (expr_nodes x)) (numbers_expr_of c operand) m
 
-  then_read_operand : {B : Type 0} (of' : B → List ℕ) (c : Context) (e : ExprTree) (calls : Calling) (f : ExprTree → Production B) → ((x : ExprTree) → Numbered (numbers (expr_nodes x)) of' (f x)) → Numbered (numbers (expr_nodes e)) of' (expr_of b c (record { tree = e; calling = calls }) >>= f)
+  pub then_read_operand : {B : Type 0} (of' : B → List ℕ) (c : Context) (e : ExprTree) (calls : Calling) (f : ExprTree → Production B) → ((x : ExprTree) → Numbered (numbers (expr_nodes x)) of' (f x)) → Numbered (numbers (expr_nodes e)) of' (expr_of b c (record { tree = e; calling = calls }) >>= f)
   then_read_operand of' c e calls f m = then_expr_of of' c (record { tree = e; calling = calls }) f m
 
   pub numbers_argument : (c : Context) → Numbered [] (λ (x : ArgumentTree). argument_numbers x) (argument b c)
   unfolding argument value_of_operand type_of_core core_argument_after head_argument_after head_argument core_argument scalar_argument long_argument const_argument value_argument const_type
-  numbers_argument c = search (then_read_operand, then_scalar_list, numbers_scalar_list, then_scalar_type, then_expr_of, numbers_expr_of, then_expr, numbers_expr, then_type_after, numbers_type_after, then_core, numbers_core, then_head, numbers_head, then_list_after, numbers_list_after, then_after_head, numbers_after_head, then_scalar_after, then_long, numbers_long, numbering, counting) depth 40 fits 8000
+  numbers_argument c = search (then_read_operand, then_scalar_list, then_scalar_type, then_expr, then_type_after, then_core, then_head, then_list_after, then_after_head, then_scalar_after, then_long, numbering, counting) depth 40 fits 8000
 
-  then_argument : (before : List ℕ) {B : Type 0} (of' : B → List ℕ) (c : Context) (f : ArgumentTree → Production B) → ((x : ArgumentTree) → Numbered (before ++ argument_numbers x) of' (f x)) → Numbered before of' (argument b c >>= f)
+  pub then_argument : (before : List ℕ) {B : Type 0} (of' : B → List ℕ) (c : Context) (f : ArgumentTree → Production B) → ((x : ArgumentTree) → Numbered (before ++ argument_numbers x) of' (f x)) → Numbered before of' (argument b c >>= f)
   then_argument before of' c f m = then_own before of' f (λ (x : ArgumentTree). argument_numbers x) (numbers_argument c) m
 
   pub numbers_operand : (c : Context) → Numbered [] (λ (x : ExprTree). numbers (expr_nodes x)) (clause_operand b c)
   unfolding clause_operand head_operand simple_operand uncalled names_after as_type
-  numbers_operand c = search (then_head, numbers_head, then_as_type, numbers_as_type, then_names, then_simple, numbers_simple, numbering, counting) depth 40 fits 8000
+  numbers_operand c = search (then_head, then_as_type, then_names, then_simple, numbering, counting) depth 40 fits 8000
 
-  then_operand : (before : List ℕ) {B : Type 0} (of' : B → List ℕ) (c : Context) (f : ExprTree → Production B) → ((x : ExprTree) → Numbered (before ++ numbers (expr_nodes x)) of' (f x)) → Numbered before of' (clause_operand b c >>= f)
+  pub then_operand : (before : List ℕ) {B : Type 0} (of' : B → List ℕ) (c : Context) (f : ExprTree → Production B) → ((x : ExprTree) → Numbered (before ++ numbers (expr_nodes x)) of' (f x)) → Numbered before of' (clause_operand b c >>= f)
   then_operand before of' c f m = then_own before of' f (λ (x : ExprTree). numbers (expr_nodes x)) (numbers_operand c) m
 
   pub numbers_conjunction : (c : Context) → Numbered [] (λ (x : ExprTree). numbers (expr_nodes x)) (conjunction b c)
@@ -488,7 +488,7 @@ module _ {b : Below} (l : Counting b) where
       then_own [] (λ (x : ExprTree). numbers (expr_nodes x)) _ (λ (x : ExprTree). numbers (expr_nodes x)) (numbers_operand c) (λ first.
       chain_numbers (λ c. punct punctuator.AmpersandAmpersand) (clause_operator punctuator.AmpersandAmpersand binary.And) (clause_operand b) (silent_sign punctuator.AmpersandAmpersand binary.And) numbers_operand c first)
 
-  then_conjunction : (before : List ℕ) {B : Type 0} (of' : B → List ℕ) (c : Context) (f : ExprTree → Production B) → ((x : ExprTree) → Numbered (before ++ numbers (expr_nodes x)) of' (f x)) → Numbered before of' (conjunction b c >>= f)
+  pub then_conjunction : (before : List ℕ) {B : Type 0} (of' : B → List ℕ) (c : Context) (f : ExprTree → Production B) → ((x : ExprTree) → Numbered (before ++ numbers (expr_nodes x)) of' (f x)) → Numbered before of' (conjunction b c >>= f)
   then_conjunction before of' c f m = then_own before of' f (λ (x : ExprTree). numbers (expr_nodes x)) (numbers_conjunction c) m
 
   pub numbers_clause : (c : Context) → Numbered [] (λ (x : ExprTree). numbers (expr_nodes x)) (clause b c)
@@ -497,7 +497,7 @@ module _ {b : Below} (l : Counting b) where
       then_own [] (λ (x : ExprTree). numbers (expr_nodes x)) _ (λ (x : ExprTree). numbers (expr_nodes x)) (numbers_conjunction c) (λ first.
       chain_numbers (λ c. punct punctuator.BarBar) (clause_operator punctuator.BarBar binary.Or) (conjunction b) (silent_sign punctuator.BarBar binary.Or) numbers_conjunction c first)
 
-  then_clause : (before : List ℕ) {B : Type 0} (of' : B → List ℕ) (c : Context) (f : ExprTree → Production B) → ((x : ExprTree) → Numbered (before ++ numbers (expr_nodes x)) of' (f x)) → Numbered before of' (clause b c >>= f)
+  pub then_clause : (before : List ℕ) {B : Type 0} (of' : B → List ℕ) (c : Context) (f : ExprTree → Production B) → ((x : ExprTree) → Numbered (before ++ numbers (expr_nodes x)) of' (f x)) → Numbered before of' (clause b c >>= f)
   then_clause before of' c f m = then_own before of' f (λ (x : ExprTree). numbers (expr_nodes x)) (numbers_clause c) m
 
 pub counting_levels : (n : ℕ) → Counting (levels n)
